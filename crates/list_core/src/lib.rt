@@ -1,0 +1,9 @@
+//! A growable list that contracts see as the list of its items, so that a recursive value built of
+//! such lists is plain data to a contract.
+#![tactic(auto)]
+
+mod parts;
+#[cfg(test)]
+mod tests;
+
+pub use parts::Parts;

@@ -1,0 +1,111 @@
+ghost use Rattle.std.specs.Prelude.{◌≡◌, [], ◌∷◌, ◌++◌, ◌<◌, length, slice_get, slice_set, ◌↔◌, IsTrue, IfSome, IfNone, IfOk, OnOk, OnErr};
+ghost use Rattle.std.specs.Option.{option_copied};
+
+use std::alloc::{AllocError, Global};
+use std::marker::Model;
+
+/// A list of parts on the heap. A recursive type may hold itself through it.
+#[derive(Debug, Drop)]
+pub struct Parts<T> {
+    items: Vec<T>,
+}
+
+impl<T> Model for Parts<T> {
+    ghost use Rattle.std.specs.Prelude.{List};
+    ghost use Rattle.std.specs.Coded.{coded_list};
+
+    ghost Value = { List T };
+
+    ghost coded = { coded_list T.code };
+
+    ghost view = { λ it. it.items.items };
+}
+
+impl<T> Parts<T> {
+    /// An empty list, which takes its memory from `alloc` as it grows.
+    pub fn new(alloc: Global) -> Parts<T>
+        ensures { result ≡ [] }
+    {
+        Parts {
+            items: Vec::new(alloc),
+        }
+    }
+
+    /// The list of a `Vec`'s items, which it takes over.
+    pub fn from_vec(items: Vec<T>) -> Parts<T>
+        ensures { result ≡ items.items }
+    {
+        Parts { items }
+    }
+
+    pub fn as_slice(&self) -> &[T]
+        ensures { result.now ≡ self.now }
+    {
+        self.items.as_slice()
+    }
+
+    pub fn len(&self) -> usize
+        ensures { result ≡ length self.now }
+    {
+        self.items.len()
+    }
+
+    pub fn is_empty(&self) -> bool
+        ensures { IsTrue result ↔ (self.now ≡ []) }
+    {
+        self.items.is_empty()
+    }
+
+    pub fn get(&self, at: usize) -> Option<&T>
+        ensures { option_copied result ≡ slice_get self.now at }
+    {
+        self.items.get(at)
+    }
+}
+
+impl<T: Drop> Parts<T> {
+    /// Adds a part at the end.
+    pub fn push(&mut self, part: T) -> Result<(), AllocError>
+        ensures ok { OnOk result (self.new ≡ self.old ++ part ∷ []) }
+        ensures err { OnErr result (self.new ≡ self.old) }
+    {
+        self.items.push(part)?;
+        Ok(())
+    }
+
+    /// Adds a part before the first one.
+    pub fn push_front(&mut self, part: T) -> Result<(), AllocError>
+        ensures ok { OnOk result (self.new ≡ part ∷ self.old) }
+        ensures err { OnErr result (self.new ≡ self.old) }
+    {
+        self.items.insert(0, part)?;
+        Ok(())
+    }
+
+    /// Puts a part in the place of the one at `at`.
+    pub fn set(&mut self, at: usize, part: T)
+        requires { at < length self.old }
+        ensures { self.new ≡ slice_set self.old at part }
+    {
+        self.items[at] = part;
+    }
+
+    /// Takes the last part away.
+    pub fn pop(&mut self) -> Option<T>
+        ensures some { IfSome result (λ part. self.old ≡ self.new ++ part ∷ []) }
+        ensures none { IfNone result ((self.old ≡ []) × (self.new ≡ [])) }
+    {
+        self.items.pop()
+    }
+}
+
+impl<T: Copy> Parts<T> {
+    /// A list of the same items.
+    pub fn from_slice(alloc: Global, items: &[T]) -> Result<Parts<T>, AllocError>
+        ensures { IfOk result (λ copy. copy ≡ items.now) }
+    {
+        Ok(Parts {
+            items: Vec::from_slice(alloc, items)?,
+        })
+    }
+}
