@@ -1,0 +1,93 @@
+-- Values, as every definition of the project sees them: what JSON spells, with whole numbers alone.
+use Rattle.std.specs.Prelude.{◌≡◌, ℕ, ◌+◌, ◌<◌, max, ℤ, pos, negsuc, ◌≤ℤ◌, List, [], ◌∷◌, length, Bool}
+use Rattle.std.specs.declared.cmp.Ordering.TheVariants.{Less}
+use Rattle.std.specs.Ordering.{nat_cmp}
+use Rattle.std.specs.Cmp.Lexicographic.{slice_cmp}
+
+mutual
+  -- A value whose lists and records each carry an A: nothing in a plain value.
+  pub data Tree (A : Type 0) : Type 0 where
+    null : Tree A
+    boolean : Bool → Tree A
+    integer : ℤ → Tree A
+    text : List ℕ → Tree A
+    list : A → Parts A → Tree A
+    dict : A → Members A → Tree A
+
+  -- the items of a list, in order
+  pub data Parts (A : Type 0) : Type 0 where
+    no_parts : Parts A
+    part : Tree A → Parts A → Parts A
+
+  -- the entries of a record, in order
+  pub data Members (A : Type 0) : Type 0 where
+    no_members : Members A
+    member : List ℕ → Tree A → Members A → Members A
+
+-- a plain value
+abbrev pub Value : Type 0
+Value = Tree (Unit {0})
+
+abbrev mutual
+  -- 1 for itself, the bytes of a text and of keys, and the weights of its parts
+  pub weight_of : {A : Type 0} → Tree A → ℕ
+  weight_of null = 1
+  weight_of (boolean b) = 1
+  weight_of (integer z) = 1
+  weight_of (text s) = 1 + length s
+  weight_of (list a ps) = 1 + parts_weight ps
+  weight_of (dict a ms) = 1 + members_weight ms
+
+  pub parts_weight : {A : Type 0} → Parts A → ℕ
+  parts_weight no_parts = 0
+  parts_weight (part v ps) = weight_of v + parts_weight ps
+
+  pub members_weight : {A : Type 0} → Members A → ℕ
+  members_weight no_members = 0
+  members_weight (member k v ms) = length k + weight_of v + members_weight ms
+
+abbrev mutual
+  -- 1 for a scalar and for what is empty, otherwise 1 more than the deepest part
+  pub depth_of : {A : Type 0} → Tree A → ℕ
+  depth_of null = 1
+  depth_of (boolean b) = 1
+  depth_of (integer z) = 1
+  depth_of (text s) = 1
+  depth_of (list a ps) = 1 + parts_depth ps
+  depth_of (dict a ms) = 1 + members_depth ms
+
+  pub parts_depth : {A : Type 0} → Parts A → ℕ
+  parts_depth no_parts = 0
+  parts_depth (part v ps) = max (depth_of v) (parts_depth ps)
+
+  pub members_depth : {A : Type 0} → Members A → ℕ
+  members_depth no_members = 0
+  members_depth (member k v ms) = max (depth_of v) (members_depth ms)
+
+-- from -9007199254740991 to 9007199254740991, the integers that a double holds one by one
+pub record IsWhole (z : ℤ) : Type 0 where
+  pub low : negsuc 9007199254740990 ≤ℤ z
+  pub high : z ≤ℤ pos 9007199254740991
+
+-- the key comes before the keys of these entries, by its bytes
+abbrev pub ComesBefore : {A : Type 0} → List ℕ → Members A → Type 0
+ComesBefore k no_members = Unit {0}
+ComesBefore k (member l v ms) = slice_cmp nat_cmp k l ≡ Less
+
+abbrev mutual
+  -- integers are in their range, and the keys of each record stand in strictly ascending order
+  pub IsPlain : {A : Type 0} → Tree A → Type 0
+  IsPlain null = Unit {0}
+  IsPlain (boolean b) = Unit {0}
+  IsPlain (integer z) = IsWhole z
+  IsPlain (text s) = Unit {0}
+  IsPlain (list a ps) = ArePlain ps
+  IsPlain (dict a ms) = AreAscending ms
+
+  pub ArePlain : {A : Type 0} → Parts A → Type 0
+  ArePlain no_parts = Unit {0}
+  ArePlain (part v ps) = IsPlain v × ArePlain ps
+
+  pub AreAscending : {A : Type 0} → Members A → Type 0
+  AreAscending no_members = Unit {0}
+  AreAscending (member k v ms) = IsPlain v × ComesBefore k ms × AreAscending ms

@@ -1,0 +1,14 @@
+//! Values: what documents hold, what requests bring and what replies show.
+#![tactic(auto)]
+
+mod name;
+mod number;
+mod snap;
+#[cfg(test)]
+mod tests;
+mod text;
+
+pub use name::{Name, NameError};
+pub use number::{ModelNo, TypeNo};
+pub use snap::{Field, Fields, Items, Snap};
+pub use text::{Bytes, Txt};

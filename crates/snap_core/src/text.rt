@@ -1,0 +1,79 @@
+ghost use Rattle.std.specs.Prelude.{◌≡◌, [], ◌++◌, length, encode_utf8, slice_get, IfOk, OnOk, OnErr};
+
+use list_core::Parts;
+use std::alloc::{AllocError, Global};
+use std::marker::Model;
+
+/// Bytes of any kind.
+pub type Bytes = Parts<u8>;
+
+/// A text in UTF-8, which contracts see as its bytes.
+#[derive(Debug, Drop)]
+pub struct Txt {
+    text: String,
+}
+
+impl Model for Txt {
+    ghost use Rattle.std.specs.Prelude.{List, ℕ};
+    ghost use Rattle.std.specs.String.{string_bytes};
+
+    ghost Value = { List ℕ };
+
+    ghost view = { λ t. string_bytes t.text };
+}
+
+impl Txt {
+    /// An empty text, which takes its memory from `alloc` as it grows.
+    pub fn new(alloc: Global) -> Txt
+        ensures { result ≡ [] }
+    {
+        Txt {
+            text: String::new(alloc),
+        }
+    }
+
+    /// The same text on the heap.
+    pub fn copy(alloc: Global, text: &str) -> Result<Txt, AllocError>
+        ensures { IfOk result (λ copy. copy ≡ text.now) }
+    {
+        Ok(Txt {
+            text: String::from_str(alloc, text)?,
+        })
+    }
+
+    pub fn text(&self) -> &str
+        ensures { result.now ≡ self.now }
+    {
+        self.text.as_str()
+    }
+
+    /// How many bytes the text has.
+    pub fn len(&self) -> usize
+        ensures { result ≡ length self.now }
+    {
+        self.text.len()
+    }
+
+    /// Adds a character at the end.
+    pub fn push(&mut self, c: char) -> Result<(), AllocError>
+        ensures ok { OnOk result (self.new ≡ self.old ++ encode_utf8 c) }
+        ensures err { OnErr result (self.new ≡ self.old) }
+    {
+        self.text.push(c)
+    }
+
+    /// Adds a text at the end.
+    pub fn push_str(&mut self, text: &str) -> Result<(), AllocError>
+        ensures ok { OnOk result (self.new ≡ self.old ++ text.now) }
+        ensures err { OnErr result (self.new ≡ self.old) }
+    {
+        self.text.push_str(text)
+    }
+
+    /// An equal text.
+    pub fn clone_in(&self, alloc: Global) -> Result<Txt, AllocError>
+        ensures { IfOk result (λ copy. copy ≡ self.now) }
+    {
+        Txt::copy(alloc, self.text())
+    }
+}
