@@ -1,0 +1,10 @@
+//! Places by JSON pointer (RFC 6901), and refusals that name a place and a rule.
+#![tactic(auto)]
+
+mod pointer;
+mod refusal;
+#[cfg(test)]
+mod tests;
+
+pub use pointer::{Pointer, Token};
+pub use refusal::{Refusal, Rule};

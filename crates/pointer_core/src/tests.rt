@@ -1,0 +1,35 @@
+use crate::{Pointer, Rule};
+use snap_core::Txt;
+use std::test::Fail;
+
+#[test]
+fn pointers_are_spelled(rt: HostRuntime) -> Result<(), Fail> {
+    let alloc = rt.alloc();
+    let mut pointer = Pointer::new(alloc);
+    assert_eq!(rt; pointer.print(alloc)?.text(), "");
+    for token in ["m~n", "", "é"] {
+        pointer.push(Txt::copy(alloc, token)?)?;
+    }
+    pointer.push_front(Txt::copy(alloc, "a/b")?)?;
+    assert_eq!(rt; pointer.print(alloc)?.text(), "/a~1b/m~0n//é");
+    assert_eq!(rt; pointer.len(), 4);
+    match pointer.get(1) {
+        Some(token) => assert_eq!(rt; token.text(), "m~n"),
+        None => assert!(rt; false),
+    }
+    assert!(rt; pointer.get(4).is_none());
+    Ok(())
+}
+
+#[test]
+fn rules_have_names_and_statuses(rt: HostRuntime) {
+    for (rule, name, status) in [
+        (Rule::Head, "head", 400),
+        (Rule::Syntax, "syntax", 400),
+        (Rule::Mistyped, "type", 422),
+        (Rule::Large, "large", 422),
+    ] {
+        assert_eq!(rt; rule.name(), name);
+        assert_eq!(rt; rule.status(), status);
+    }
+}
