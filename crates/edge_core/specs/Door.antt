@@ -1,0 +1,159 @@
+-- Links: streams that bring bytes and take bytes, one after another.
+use Rattle.std.specs.Prelude.{ℕ, ◌≡◌, ◌++◌, ◌||◌, Bool, true, false, List, [], ◌∷◌, Option, Some, None, length, drop, min, not, if◌then◌else◌, option_to_list, option_map}
+use Rattle.edge_core.specs.Faults.{Faults, is_next_failing, after_call}
+use Rattle.edge_core.specs.Room.{has_place}
+
+-- what a link brings from here on, and what was written to it
+pub record Link : Type 0 where
+  pub left : List ℕ
+  pub written : List ℕ
+
+-- the links that ended, the open one, and what those to come will bring
+pub record Links : Type 0 where
+  pub shut : List Link
+  pub current : Option Link
+  pub coming : List (List ℕ)
+
+-- both are told and related, or neither is told
+abbrev pub BothTold : {A : Type 0} → (A → A → Type 0) → Option A → Option A → Type 0
+BothTold R None None = Unit {0}
+BothTold R None (Some new) = ⊥
+BothTold R (Some old) None = ⊥
+BothTold R (Some old) (Some new) = R old new
+
+-- the first of the links to come is opened
+pub record Accepts (old new : Links) : Type 0 where
+  pub input : List ℕ
+  pub was_next : old.coming ≡ input ∷ new.coming
+  pub is_current : new.current ≡ Some (record { left = input; written = [] })
+  pub same_shut : new.shut ≡ old.shut
+
+-- no link is left, and nothing changes
+pub record FindsNone (old new : Links) : Type 0 where
+  pub no_more : old.coming ≡ []
+  pub same : new ≡ old
+
+-- the open link brought the piece, which is empty only at its end
+pub record Reads (piece : List ℕ) (old new : Links) : Type 0 where
+  pub left : List ℕ
+  pub written : List ℕ
+  pub before : old.current ≡ Some (record { left = piece ++ left; written = written })
+  pub after : new ≡ record old { current = Some (record { left = left; written = written }) }
+  pub at_end : piece ≡ [] → left ≡ []
+
+-- the open link took the piece
+pub record Writes (piece : List ℕ) (old new : Links) : Type 0 where
+  pub left : List ℕ
+  pub written : List ℕ
+  pub before : old.current ≡ Some (record { left = left; written = written })
+  pub after : new ≡ record old { current = Some (record { left = left; written = written ++ piece }) }
+
+-- the open link is the last of those that ended
+abbrev pub after_shut : Links → Links
+after_shut links =
+    record links { shut = links.shut ++ option_to_list links.current; current = None }
+
+-- a link in memory, and the room in bytes for all that is written to it
+pub record BoundedLink : Type 0 where
+  pub link : Link
+  pub space : ℕ
+
+-- nothing is written to the link yet, and it has that room
+pub record IsFresh (space : ℕ) (bounded : BoundedLink) : Type 0 where
+  pub unwritten : bounded.link.written ≡ []
+  pub roomy : bounded.space ≡ space
+
+-- after a piece was written, which is left out where it has no place
+abbrev pub after_piece : List ℕ → BoundedLink → BoundedLink
+after_piece piece bounded =
+    let written = bounded.link.written in
+    record bounded { link = record bounded.link { written = if has_place written bounded.space piece then written ++ piece else written } }
+
+-- after that many bytes were read
+abbrev pub after_bytes : ℕ → Link → Link
+after_bytes n link = record link { left = drop n link.left }
+
+abbrev pub after_reading : ℕ → BoundedLink → BoundedLink
+after_reading n bounded = record bounded { link = after_bytes n bounded.link }
+
+-- links in memory: no read takes more than `cut` bytes, and `space` is the room for all that is written to a link
+pub record DoorState : Type 0 where
+  pub is_attached : Bool
+  pub links : Links
+  pub cut : ℕ
+  pub space : ℕ
+  pub faults : Faults
+
+abbrev pub after_attach : DoorState → DoorState
+after_attach door =
+    let failed = is_next_failing door.faults in
+    record door { is_attached = door.is_attached || not failed; faults = after_call door.faults failed }
+
+-- some link is still to come
+abbrev pub has_next : List (List ℕ) → Bool
+has_next [] = false
+has_next (input ∷ coming) = true
+
+-- the links once the first of those to come is opened, if there is one
+abbrev pub with_next : List (List ℕ) → Links → Links
+with_next [] links = links
+with_next (input ∷ coming) links =
+    record links { current = Some (record { left = input; written = [] }); coming = coming }
+
+abbrev pub after_accept : DoorState → DoorState
+after_accept door =
+    let failed = is_next_failing door.faults in
+    record door { links = if failed then door.links else with_next door.links.coming door.links; faults = after_call door.faults failed }
+
+-- what the open link still brings, and what was written to it
+abbrev pub left_of : Option Link → List ℕ
+left_of None = []
+left_of (Some link) = link.left
+
+abbrev pub written_of : Option Link → List ℕ
+written_of None = []
+written_of (Some link) = link.written
+
+-- how many bytes a read into a room of that many takes
+abbrev pub read_count : DoorState → ℕ → ℕ
+read_count door room = min door.cut (min room (length (left_of door.links.current)))
+
+abbrev pub after_read : DoorState → ℕ → DoorState
+after_read door room =
+    let failed = is_next_failing door.faults in
+    let current = door.links.current in
+    record door { links = record door.links { current = if failed then current else option_map (after_bytes (read_count door room)) current }; faults = after_call door.faults failed }
+
+-- the next writing fails: it is to fail, or the link has no room left for the piece
+abbrev pub write_fails : DoorState → List ℕ → Bool
+write_fails door piece =
+    is_next_failing door.faults || not (has_place (written_of door.links.current) door.space piece)
+
+abbrev pub with_written : List ℕ → Link → Link
+with_written piece link = record link { written = link.written ++ piece }
+
+abbrev pub after_write : DoorState → List ℕ → DoorState
+after_write door piece =
+    let failed = write_fails door piece in
+    let current = door.links.current in
+    record door { links = record door.links { current = if failed then current else option_map (with_written piece) current }; faults = after_call door.faults failed }
+
+-- the links that were opened, in order
+abbrev pub begun : Links → List Link
+begun links = links.shut ++ option_to_list links.current
+
+-- what each link to come brings
+abbrev pub inputs_of : List BoundedLink → List (List ℕ)
+inputs_of [] = []
+inputs_of (bounded ∷ coming) = bounded.link.left ∷ inputs_of coming
+
+-- each link to come is fresh
+abbrev pub AllFresh : ℕ → List BoundedLink → Type 0
+AllFresh space [] = Unit {0}
+AllFresh space (bounded ∷ coming) = IsFresh space bounded × AllFresh space coming
+
+-- what is known of a door to the system
+pub record RealDoorState : Type 0 where
+  pub is_attached : Bool
+  pub is_open : Bool
+  pub faults : ℕ

@@ -1,0 +1,5 @@
+pub mod Door
+pub mod DoorInside
+pub mod Faults
+pub mod Room
+pub mod World

@@ -1,0 +1,97 @@
+ghost use Rattle.std.specs.Prelude.{◌≡◌, ◌≤◌, ℕ, List, length, IfOk};
+ghost use Rattle.edge_core.specs.Faults.{HasRisen};
+
+use crate::world::{EdgeError, World};
+use snap_core::Bytes;
+use std::alloc::Global;
+use std::io::{Print, Read};
+use std::marker::Model;
+use std::rt::Files;
+use std::{fs, io};
+
+/// The files of the system, and two streams as standard output and error. Which bytes they give
+/// and take isn't told, and contracts see it as the count of its faults.
+#[derive(Drop)]
+pub struct RealWorld<F, O, E> {
+    files: F,
+    out: O,
+    err: E,
+    faults: u64,
+}
+
+impl<F, O, E> Model for RealWorld<F, O, E> {
+    ghost use Rattle.std.specs.Prelude.{ℕ};
+
+    ghost Value = { ℕ };
+
+    ghost view = { λ w. w.faults };
+}
+
+// What a file gives up to the first byte beyond `most`.
+fn read_past<F: Files>(files: &F, alloc: Global, name: &str, most: usize) -> io::Result<Vec<u8>> {
+    let limit = (most as u64).saturating_add(1);
+    let mut bytes = Vec::new(alloc);
+    fs::open(files, name)?.take(limit).read_to_end(&mut bytes)?;
+    Ok(bytes)
+}
+
+impl<F, O, E> RealWorld<F, O, E> {
+    pub fn new(files: F, out: O, err: E) -> RealWorld<F, O, E>
+        ensures { result ≡ 0 }
+    {
+        RealWorld {
+            files,
+            out,
+            err,
+            faults: 0,
+        }
+    }
+
+    fn failure(&mut self) -> EdgeError
+        ensures error { result ≡ EdgeError.Failed }
+        ensures rises { HasRisen self.old self.new }
+        ensures count { self.old ≤ self.new }
+    {
+        self.faults = self.faults.saturating_add(1);
+        EdgeError::Failed
+    }
+}
+
+impl<F: Files, O: Print, E: Print> World for RealWorld<F, O, E> {
+    ghost use Rattle.std.specs.Prelude.{None};
+
+    ghost files = { λ _. None };
+
+    ghost out = { λ _. None };
+
+    ghost err = { λ _. None };
+
+    ghost fault_count = { λ faults. faults };
+
+    fn read_file(&mut self, alloc: Global, name: &str, most: usize) -> Result<Bytes, EdgeError> {
+        match read_past(&self.files, alloc, name, most) {
+            Ok(bytes) if bytes.len() > most => Err(EdgeError::TooLong),
+            Ok(bytes) => Ok(Bytes::from_slice(alloc, bytes.as_slice())?),
+            Err(e) if e.kind() == io::ErrorKind::OutOfMemory => Err(EdgeError::Memory),
+            Err(_) => Err(self.failure()),
+        }
+    }
+
+    fn write_out(&mut self, piece: &[u8]) -> Result<(), EdgeError> {
+        match self.out.write_all(piece) {
+            Ok(()) => Ok(()),
+            Err(_) => Err(self.failure()),
+        }
+    }
+
+    fn write_err(&mut self, piece: &[u8]) -> Result<(), EdgeError> {
+        match self.err.write_all(piece) {
+            Ok(()) => Ok(()),
+            Err(_) => Err(self.failure()),
+        }
+    }
+
+    fn faults(&self) -> u64 {
+        self.faults
+    }
+}

@@ -1,0 +1,2 @@
+mod door;
+mod world;
