@@ -1,0 +1,4 @@
+pub mod ArrivalLemmas
+pub mod CutLemmas
+pub mod LawLemmas
+pub mod NumberLemmas

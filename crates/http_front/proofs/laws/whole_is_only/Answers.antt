@@ -1,0 +1,5 @@
+use Rattle.http_front.proofs.LawLemmas as lemmas
+use Rattle.http_front.proofs.laws.whole_is_only.Goals as goal
+
+pub returns : goal.returns
+returns c = lemmas.whole_is_only
