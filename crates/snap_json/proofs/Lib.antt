@@ -1,0 +1,4 @@
+pub mod Ordered
+pub mod Printings
+pub mod Readings
+pub mod Steps

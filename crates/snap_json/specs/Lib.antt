@@ -1,0 +1,3 @@
+pub mod Fault
+pub mod Printing
+pub mod Reading
