@@ -1,0 +1,5 @@
+pub mod Sound
+pub mod Steps
+pub mod Finding
+pub mod Laws
+pub mod Again

@@ -1,0 +1,4 @@
+pub mod Table
+pub mod Making
+pub mod Makes
+pub mod Made
