@@ -1,0 +1,10 @@
+pub mod Completes
+pub mod Exits
+pub mod Links
+pub mod ReadingFiles
+pub mod ReadingLaws
+pub mod ReadingSteps
+pub mod Root
+pub mod Row
+pub mod Runs
+pub mod Statuses

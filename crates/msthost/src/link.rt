@@ -1,0 +1,78 @@
+//! The bytes of a link, in whatever pieces they come and go.
+ghost use Rattle.std.specs.Prelude.{◌≡◌, ◌≤◌, ◌<◌, ◌-◌, length, take, drop, IsTrue, IfOk, OnOk, OnErr};
+ghost use Rattle.edge_core.specs.Faults.{HasRisen};
+ghost use Rattle.edge_core.specs.Door.{BothTold, Reads, Writes};
+ghost use Rattle.msthost.specs.Serving as serving;
+
+use edge_core::{Door, DoorFault};
+
+/// Reads what the open link brings to the start of `room`, to the link's end or until the room is
+/// full, and answers how many bytes came.
+pub fn read_all<D: Door>(door: &mut D, room: &mut [u8]) -> Result<usize, DoorFault>
+    requires open { IsTrue (D.is_open door.old) }
+    ensures in_room { IfOk result (λ n. n ≤ length room.new) }
+    ensures came { IfOk result (λ n. BothTold (serving.BringsAll (length room.new) (take n room.new)) (D.links door.old) (D.links door.new)) }
+    ensures failed { OnErr result (HasRisen (D.fault_count door.old) (D.fault_count door.new)) }
+    ensures some { OnErr result (BothTold (serving.BringsSome (length room.new)) (D.links door.old) (D.links door.new)) }
+    ensures same_open { D.is_open door.new ≡ D.is_open door.old }
+    ensures count { D.fault_count door.old ≤ D.fault_count door.new }
+{
+    let mut filled = 0;
+    while filled < room.len() {
+        let more = read_more(door, room, filled)?;
+        if more == filled {
+            return Ok(filled);
+        }
+        filled = more;
+    }
+    Ok(filled)
+}
+
+// Reads once into the room behind the bytes that came so far, and answers how many came in all.
+fn read_more<D: Door>(door: &mut D, room: &mut [u8], filled: usize) -> Result<usize, DoorFault>
+    requires open { IsTrue (D.is_open door.old) }
+    requires has_room { filled < length room.old }
+    ensures in_room { IfOk result (λ n. n ≤ length room.new) }
+    ensures more { IfOk result (λ n. filled ≤ n) }
+    ensures kept { take filled room.new ≡ take filled room.old }
+    ensures came { IfOk result (λ n. BothTold (Reads (take (n - filled) (drop filled room.new))) (D.links door.old) (D.links door.new)) }
+    ensures failed { OnErr result (HasRisen (D.fault_count door.old) (D.fault_count door.new)) }
+    ensures err { OnErr result (D.links door.new ≡ D.links door.old) }
+    ensures same_open { D.is_open door.new ≡ D.is_open door.old }
+    ensures count { D.fault_count door.old ≤ D.fault_count door.new }
+{
+    let n = door.read(&mut room[filled..])?;
+    Ok(filled + n)
+}
+
+/// Writes all the bytes to the open link.
+pub fn write_all<D: Door>(door: &mut D, bytes: &[u8]) -> Result<(), DoorFault>
+    requires open { IsTrue (D.is_open door.old) }
+    ensures took { OnOk result (BothTold (serving.Takes bytes.now) (D.links door.old) (D.links door.new)) }
+    ensures failed { OnErr result (HasRisen (D.fault_count door.old) (D.fault_count door.new)) }
+    ensures part { OnErr result (BothTold (serving.TakesPart bytes.now) (D.links door.old) (D.links door.new)) }
+    ensures same_open { D.is_open door.new ≡ D.is_open door.old }
+    ensures count { D.fault_count door.old ≤ D.fault_count door.new }
+{
+    let mut written = 0;
+    while written < bytes.len() {
+        written = write_more(door, bytes, written)?;
+    }
+    Ok(())
+}
+
+// Writes once what isn't written yet, and answers how many bytes are written in all.
+fn write_more<D: Door>(door: &mut D, bytes: &[u8], written: usize) -> Result<usize, DoorFault>
+    requires open { IsTrue (D.is_open door.old) }
+    requires some_left { written < length bytes.now }
+    ensures more { IfOk result (λ n. written < n) }
+    ensures within { IfOk result (λ n. n ≤ length bytes.now) }
+    ensures took { IfOk result (λ n. BothTold (Writes (take (n - written) (drop written bytes.now))) (D.links door.old) (D.links door.new)) }
+    ensures failed { OnErr result (HasRisen (D.fault_count door.old) (D.fault_count door.new)) }
+    ensures err { OnErr result (D.links door.new ≡ D.links door.old) }
+    ensures same_open { D.is_open door.new ≡ D.is_open door.old }
+    ensures count { D.fault_count door.old ≤ D.fault_count door.new }
+{
+    let n = door.write(&bytes[written..])?;
+    Ok(written + n)
+}
