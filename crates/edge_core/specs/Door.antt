@@ -1,5 +1,5 @@
 -- Links: streams that bring bytes and take bytes, one after another.
-use Rattle.std.specs.Prelude.{ℕ, ◌≡◌, ◌++◌, ◌||◌, Bool, true, false, List, [], ◌∷◌, Option, Some, None, length, drop, min, not, if◌then◌else◌, option_to_list, option_map}
+use Rattle.std.specs.Prelude.{ℕ, ◌≡◌, ◌++◌, ◌||◌, Bool, true, false, List, [], ◌∷◌, Option, Some, None, length, drop, min, not, if◌then◌else◌, option_to_list, option_map, map}
 use Rattle.edge_core.specs.Faults.{Faults, is_next_failing, after_call}
 use Rattle.edge_core.specs.Room.{has_place}
 
@@ -138,9 +138,10 @@ after_write door piece =
     let current = door.links.current in
     record door { links = record door.links { current = if failed then current else option_map (with_written piece) current }; faults = after_call door.faults failed }
 
--- the links that were opened, in order
-abbrev pub begun : Links → List Link
-begun links = links.shut ++ option_to_list links.current
+-- what was written to each link, in order: nothing yet to those that are to come
+abbrev pub all_written : Links → List (List ℕ)
+all_written links =
+    map (λ link. link.written) (links.shut ++ option_to_list links.current) ++ map (λ input. []) links.coming
 
 -- what each link to come brings
 abbrev pub inputs_of : List BoundedLink → List (List ℕ)

@@ -1,4 +1,4 @@
-ghost use Rattle.std.specs.Prelude.{◌≡◌, ◌≤◌, ◌<◌, ℕ, Bool, Option, length, take, IfOk, IfSome, OnOk, OnErr, IsTrue, is_some, true, false, option_map, MatchBool};
+ghost use Rattle.std.specs.Prelude.{◌≡◌, ◌≤◌, ◌<◌, ℕ, Bool, Option, length, take, IfOk, IfSome, OnOk, OnErr, IsTrue, is_some, false, option_map, MatchBool};
 ghost use Rattle.edge_core.specs.Faults.{HasRisen};
 ghost use Rattle.edge_core.specs.Door.{Links, BothTold, Accepts, FindsNone, Reads, Writes, after_shut};
 

@@ -1,5 +1,5 @@
 ghost use Rattle.std.specs.Prelude.{◌≡◌, ◌≤◌};
-ghost use Rattle.edge_core.specs.Faults.{risen, is_next_failing, after_call};
+ghost use Rattle.edge_core.specs.Faults.{is_next_failing, after_call};
 
 use list_core::Parts;
 use std::marker::Model;

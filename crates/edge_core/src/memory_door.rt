@@ -1,8 +1,8 @@
-ghost use Rattle.std.specs.Prelude.{◌≡◌, ◌≤◌, ◌<◌, ◌++◌, [], length, take, drop, min, IfOk, IfSome, IsTrue, false, is_some, is_err, slice_get, option_map};
+ghost use Rattle.std.specs.Prelude.{◌≡◌, ◌≤◌, ◌<◌, ◌++◌, [], length, take, drop, min, IfOk, IfSome, IsTrue, false, is_some, is_err, slice_get, option_map, map};
 ghost use Rattle.std.specs.Option.{option_copied};
 ghost use Rattle.edge_core.specs.Room.{has_place};
 ghost use Rattle.edge_core.specs.Faults.{is_next_failing};
-ghost use Rattle.edge_core.specs.Door.{AllFresh, inputs_of, after_reading, after_piece, after_attach, has_next, after_accept, left_of, read_count, after_read, write_fails, after_write, after_shut, begun};
+ghost use Rattle.edge_core.specs.Door.{AllFresh, inputs_of, after_reading, after_piece, after_attach, has_next, after_accept, left_of, read_count, after_read, write_fails, after_write, after_shut, all_written};
 
 use crate::door::{Door, DoorFault};
 use crate::fault_plan::{Calls, FaultPlan};
@@ -85,6 +85,13 @@ fn write_to(current: &mut Option<MemoryLink>, piece: &[u8])
         Some(link) => link.write(piece),
         None => unreachable!(),
     }
+}
+
+/// What is written to a link that isn't open yet: nothing, where there is such a link.
+fn unwritten(coming: &VecDeque<MemoryLink>, at: usize) -> Option<&[u8]>
+    ensures { option_copied result ≡ slice_get (map (λ input. []) (inputs_of coming.now.items)) at }
+{
+    if at < coming.len() { Some(&[]) } else { None }
 }
 
 impl MemoryDoor {
@@ -195,17 +202,20 @@ impl MemoryDoor {
         }
     }
 
-    /// What was written to a link, the first of which is number 0. `None` where no such link was
-    /// opened yet.
+    /// What was written to a link, the first of which is number 0: nothing where it isn't open yet.
+    /// `None` where there is no such link.
     pub fn written(&self, link: usize) -> Option<&[u8]>
-        ensures { option_copied result ≡ option_map (λ opened. opened.written) (slice_get (begun self.now.links) link) }
+        ensures { option_copied result ≡ slice_get (all_written self.now.links) link }
     {
-        if let Some(ended) = self.shut.get(link) {
-            return Some(ended.written());
+        let ended = self.shut.len();
+        if link < ended {
+            return Some(self.shut[link].written());
         }
+        let later = link - ended;
         match &self.current {
-            Some(open) if link == self.shut.len() => Some(open.written()),
-            _ => None,
+            Some(open) if later == 0 => Some(open.written()),
+            Some(_) => unwritten(&self.coming, later - 1),
+            None => unwritten(&self.coming, later),
         }
     }
 

@@ -1,4 +1,4 @@
-ghost use Rattle.std.specs.Prelude.{◌≡◌, ◌≤◌, ◌<◌, ◌↔◌, [], length, drop, IfOk, IfErr, IsTrue, IsErrOf, IsSomeAnd, is_err};
+ghost use Rattle.std.specs.Prelude.{◌≡◌, ◌≤◌, ◌<◌, ◌↔◌, [], length, IfOk, IfErr, IsTrue, IsErrOf, IsSomeAnd, is_err};
 ghost use Rattle.std.specs.Option.{option_copied};
 ghost use Rattle.edge_core.specs.World.{file_of, read_fails, write_fails, after_read, after_out, after_err};
 

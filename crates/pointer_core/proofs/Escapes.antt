@@ -1,9 +1,9 @@
 -- Which characters are escaped in a pointer's text: `~` and `/` alone.
-use Rattle.std.proofs.Common.{◌≡◌, ◌≢◌, ℕ, ◌+◌, ◌/◌, ◌%◌, ◌≤◌, List, [], ◌∷◌, ◌++◌, Bool, true, false, cond, refl, ap, ◌∙◌, arith}
+use Rattle.std.proofs.Common.{◌≡◌, ◌≢◌, ℕ, ◌+◌, ◌/◌, ◌≤◌, List, [], ◌∷◌, Bool, true, false, cond, refl, ap, ◌∙◌, arith}
 use Rattle.std.proofs.lemmas.Bool.{ne_eqb}
 use lib.Dec.{ltb}
 use lib.Utf8.{encode, next}
-use Rattle.pointer_core.specs.Path.{escaped_byte, escaped}
+use Rattle.pointer_core.specs.Path.{escaped}
 
 byte_kept : (b : ℕ) (rest : List ℕ) → b ≢ 126 → b ≢ 47 → escaped (b ∷ rest) ≡ b ∷ escaped rest
 byte_kept b rest tilde slash = rw (ne_eqb b 126 tilde, ne_eqb b 47 slash) refl

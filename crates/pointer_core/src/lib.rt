@@ -3,8 +3,10 @@
 
 mod pointer;
 mod refusal;
+mod schema_rule;
 #[cfg(test)]
 mod tests;
 
 pub use pointer::{Pointer, Token};
 pub use refusal::{Refusal, Rule};
+pub use schema_rule::SchemaRule;

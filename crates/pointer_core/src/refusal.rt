@@ -10,8 +10,12 @@ pub enum Rule {
     Head,
     /// A body has no reading.
     Syntax,
+    /// A number in a body isn't whole.
+    Whole,
     /// A value isn't one that its type takes. Its name in replies is `type`.
     Mistyped,
+    /// A value doesn't meet a condition of its type.
+    Refine,
     /// A value is too heavy or too deep.
     Large,
 }
@@ -24,7 +28,9 @@ impl Rule {
         match self {
             Rule::Head => "head",
             Rule::Syntax => "syntax",
+            Rule::Whole => "whole",
             Rule::Mistyped => "type",
+            Rule::Refine => "refine",
             Rule::Large => "large",
         }
     }
@@ -34,8 +40,8 @@ impl Rule {
         ensures { result ≡ rule_status self.now }
     {
         match self {
-            Rule::Head | Rule::Syntax => 400,
-            Rule::Mistyped | Rule::Large => 422,
+            Rule::Head | Rule::Syntax | Rule::Whole => 400,
+            Rule::Mistyped | Rule::Refine | Rule::Large => 422,
         }
     }
 }

@@ -26,7 +26,9 @@ fn rules_have_names_and_statuses(rt: HostRuntime) {
     for (rule, name, status) in [
         (Rule::Head, "head", 400),
         (Rule::Syntax, "syntax", 400),
+        (Rule::Whole, "whole", 400),
         (Rule::Mistyped, "type", 422),
+        (Rule::Refine, "refine", 422),
         (Rule::Large, "large", 422),
     ] {
         assert_eq!(rt; rule.name(), name);

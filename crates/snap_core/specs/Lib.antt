@@ -1,3 +1,4 @@
 pub mod Name
 pub mod Value
 pub mod View
+pub mod Unview

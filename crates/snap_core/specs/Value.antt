@@ -1,8 +1,9 @@
 -- Values, as every definition of the project sees them: what JSON spells, with whole numbers alone.
-use Rattle.std.specs.Prelude.{◌≡◌, ℕ, ◌+◌, ◌<◌, max, ℤ, pos, negsuc, ◌≤ℤ◌, List, [], ◌∷◌, length, Bool}
+use Rattle.std.specs.Prelude.{◌≡◌, ℕ, ◌+◌, max, ℤ, pos, negsuc, int_le, List, length, Bool, ◌&&◌, IsTrue, Option, Some, None, if◌then◌else◌}
 use Rattle.std.specs.declared.cmp.Ordering.TheVariants.{Less}
 use Rattle.std.specs.Ordering.{nat_cmp}
 use Rattle.std.specs.Cmp.Lexicographic.{slice_cmp}
+use Rattle.std.specs.Str.{bytes_eq}
 
 mutual
   -- A value whose lists and records each carry an A: nothing in a plain value.
@@ -65,9 +66,8 @@ abbrev mutual
   members_depth (member k v ms) = max (depth_of v) (members_depth ms)
 
 -- from -9007199254740991 to 9007199254740991, the integers that a double holds one by one
-pub record IsWhole (z : ℤ) : Type 0 where
-  pub low : negsuc 9007199254740990 ≤ℤ z
-  pub high : z ≤ℤ pos 9007199254740991
+abbrev pub is_whole : ℤ → Bool
+is_whole z = int_le (negsuc 9007199254740990) z && int_le z (pos 9007199254740991)
 
 -- the key comes before the keys of these entries, by its bytes
 abbrev pub ComesBefore : {A : Type 0} → List ℕ → Members A → Type 0
@@ -79,7 +79,7 @@ abbrev mutual
   pub IsPlain : {A : Type 0} → Tree A → Type 0
   IsPlain null = Unit {0}
   IsPlain (boolean b) = Unit {0}
-  IsPlain (integer z) = IsWhole z
+  IsPlain (integer z) = IsTrue (is_whole z)
   IsPlain (text s) = Unit {0}
   IsPlain (list a ps) = ArePlain ps
   IsPlain (dict a ms) = AreAscending ms
@@ -91,3 +91,28 @@ abbrev mutual
   pub AreAscending : {A : Type 0} → Members A → Type 0
   AreAscending no_members = Unit {0}
   AreAscending (member k v ms) = IsPlain v × ComesBefore k ms × AreAscending ms
+
+-- the keys of one record stand in strictly ascending order, whatever stands under them
+abbrev pub AreKeyed : {A : Type 0} → Members A → Type 0
+AreKeyed no_members = Unit {0}
+AreKeyed (member k v ms) = ComesBefore k ms × AreKeyed ms
+
+abbrev mutual
+  -- the keys of each record stand in strictly ascending order
+  pub IsOrdered : {A : Type 0} → Tree A → Type 0
+  IsOrdered (list a ps) = AreOrdered ps
+  IsOrdered (dict a ms) = HaveOrder ms
+  IsOrdered _ = Unit {0}
+
+  pub AreOrdered : {A : Type 0} → Parts A → Type 0
+  AreOrdered no_parts = Unit {0}
+  AreOrdered (part v ps) = IsOrdered v × AreOrdered ps
+
+  pub HaveOrder : {A : Type 0} → Members A → Type 0
+  HaveOrder no_members = Unit {0}
+  HaveOrder (member k v ms) = IsOrdered v × ComesBefore k ms × HaveOrder ms
+
+-- the value of the record's first entry under a key
+abbrev pub value_at : {A : Type 0} → List ℕ → Members A → Option (Tree A)
+value_at key no_members = None
+value_at key (member k v ms) = if bytes_eq key k then Some v else value_at key ms

@@ -1,6 +1,7 @@
 //! Values: what documents hold, what requests bring and what replies show.
 #![tactic(auto)]
 
+mod lookup;
 mod name;
 mod number;
 mod snap;
@@ -8,7 +9,8 @@ mod snap;
 mod tests;
 mod text;
 
-pub use name::{Name, NameError};
+pub use lookup::{find, position};
+pub use name::{Name, NameError, is_name};
 pub use number::{ModelNo, TypeNo};
 pub use snap::{Field, Fields, Items, Snap};
 pub use text::{Bytes, Txt};

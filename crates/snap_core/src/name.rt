@@ -1,4 +1,4 @@
-ghost use Rattle.std.specs.Prelude.{◌≡◌, ◌↔◌, false, IsTrue, IfOk, IsErrOf};
+ghost use Rattle.std.specs.Prelude.{◌≡◌, false, IsTrue, IfOk, IsErrOf};
 ghost use Rattle.std.specs.List.{list_all};
 ghost use Rattle.snap_core.specs.Name.{is_name, is_name_byte};
 
@@ -64,7 +64,8 @@ impl Name {
     }
 }
 
-fn is_name(bytes: &[u8]) -> bool
+/// Whether the bytes of a text are a `Name`.
+pub fn is_name(bytes: &[u8]) -> bool
     ensures { result ≡ is_name bytes.now }
 {
     match bytes {

@@ -1,4 +1,8 @@
-use crate::{Field, Name, NameError, Snap, Txt};
+ghost use Rattle.std.specs.Prelude.{IfOk};
+ghost use Rattle.snap_core.specs.Value.{AreKeyed};
+ghost use Rattle.snap_core.specs.View.{fields_view};
+
+use crate::{Field, Fields, Name, NameError, Snap, Txt, find};
 use list_core::Parts;
 use std::alloc::{AllocError, Global};
 use std::test::Fail;
@@ -62,6 +66,27 @@ fn copies_are_equal(rt: HostRuntime) -> Result<(), Fail> {
     other.push_str("a")?;
     assert_eq!(rt; other.clone_in(alloc)?.text(), "éa");
     assert_eq!(rt; other.len(), 3);
+    Ok(())
+}
+
+// `{"id":7}`
+fn numbered(alloc: Global) -> Result<Fields, AllocError>
+    ensures { IfOk result (λ fields. AreKeyed (fields_view fields)) }
+{
+    let mut fields = Parts::new(alloc);
+    fields.push(field(alloc, "id", Snap::Int(7))?)?;
+    Ok(fields)
+}
+
+#[test]
+fn values_are_found_by_their_keys(rt: HostRuntime) -> Result<(), Fail> {
+    let fields = numbered(rt.alloc())?;
+    match find(fields.as_slice(), "id") {
+        Some(value) => assert!(rt; value.equal(&Snap::Int(7))),
+        None => assert!(rt; false),
+    }
+    assert!(rt; find(fields.as_slice(), "").is_none());
+    assert!(rt; find(fields.as_slice(), "name").is_none());
     Ok(())
 }
 

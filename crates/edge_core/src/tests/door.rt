@@ -57,29 +57,31 @@ fn holds(door: &MemoryDoor, faults: u64, written: [Option<&[u8]>; 3]) -> bool {
 
 #[test]
 fn each_call_of_a_door_in_memory_fails_in_turn(rt: HostRuntime) -> Result<(), Fail> {
-    let cases: [(u64, Result<(), DoorFault>, Option<&[u8]>, Option<&[u8]>); 12] = [
-        (0, Ok(()), Some(b"ab"), Some(b"")),
-        (1, Err(DoorFault), None, None),
-        (2, Err(DoorFault), None, None),
-        (3, Err(DoorFault), Some(b""), None),
-        (4, Err(DoorFault), Some(b""), None),
-        (5, Err(DoorFault), Some(b"a"), None),
-        (6, Err(DoorFault), Some(b"a"), None),
-        (7, Err(DoorFault), Some(b"ab"), None),
-        (8, Err(DoorFault), Some(b"ab"), None),
-        (9, Err(DoorFault), Some(b"ab"), Some(b"")),
-        (10, Err(DoorFault), Some(b"ab"), Some(b"")),
-        (11, Ok(()), Some(b"ab"), Some(b"")),
+    let cases: [(u64, Result<(), DoorFault>, &[u8], &[u8]); 14] = [
+        (0, Ok(()), b"ab", b"c"),
+        (1, Err(DoorFault), b"", b""),
+        (2, Err(DoorFault), b"", b""),
+        (3, Err(DoorFault), b"", b""),
+        (4, Err(DoorFault), b"", b""),
+        (5, Err(DoorFault), b"a", b""),
+        (6, Err(DoorFault), b"a", b""),
+        (7, Err(DoorFault), b"ab", b""),
+        (8, Err(DoorFault), b"ab", b""),
+        (9, Err(DoorFault), b"ab", b""),
+        (10, Err(DoorFault), b"ab", b""),
+        (11, Err(DoorFault), b"ab", b"c"),
+        (12, Err(DoorFault), b"ab", b"c"),
+        (13, Ok(()), b"ab", b"c"),
     ];
     for (failing, want, first, second) in cases {
         let alloc = rt.alloc();
         let fails = Calls::from_slice(alloc, &[failing])?;
-        let mut door = MemoryDoor::new(alloc, inputs(alloc, &[b"ab", b""])?, 1, 2, fails)?;
+        let mut door = MemoryDoor::new(alloc, inputs(alloc, &[b"ab", b"c"])?, 1, 2, fails)?;
         let echoed = echo(&mut door, None);
         assert!(rt; echoed == want, "call {failing}");
         let faults = u64::from(want.is_err());
         assert!(rt;
-            holds(&door, faults, [first, second, None]),
+            holds(&door, faults, [Some(first), Some(second), None]),
             "call {failing}"
         );
     }

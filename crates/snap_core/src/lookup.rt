@@ -1,0 +1,31 @@
+//! Fields of records by their keys.
+ghost use Rattle.std.specs.Prelude.{◌≡◌, ◌<◌, length, slice_get, Some, None, IfSome, MatchOption};
+ghost use Rattle.std.specs.Option.{option_copied, option_map};
+ghost use Rattle.snap_core.specs.Value.{AreKeyed, value_at};
+ghost use Rattle.snap_core.specs.View.{view, fields_view};
+
+use crate::snap::{Field, Snap};
+
+/// The value under a key, looked for by halves.
+pub fn find<'a>(fields: &'a [Field], key: &str) -> Option<&'a Snap>
+    requires { AreKeyed (fields_view fields.now) }
+    ensures found { option_map view (option_copied result) ≡ value_at key.now (fields_view fields.now) }
+{
+    match position(fields, key) {
+        Some(at) => Some(&fields[at].value),
+        None => None,
+    }
+}
+
+/// Where the field with a key stands, looked for by halves.
+pub fn position(fields: &[Field], key: &str) -> Option<usize>
+    requires { AreKeyed (fields_view fields.now) }
+    ensures within { IfSome result (λ at. at < length fields.now) }
+    ensures found { let value = value_at key.now (fields_view fields.now) in
+        MatchOption result (value ≡ None)
+        (λ at. (field : Field) → slice_get fields.now at ≡ Some field → value ≡ Some (view field.value)) }
+{
+    fields
+        .binary_search_by(|field| field.key.text().cmp(key))
+        .ok()
+}
