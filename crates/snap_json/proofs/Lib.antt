@@ -1,3 +1,4 @@
+pub mod Loosenings
 pub mod Ordered
 pub mod Printings
 pub mod Readings

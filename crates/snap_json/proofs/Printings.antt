@@ -1,6 +1,5 @@
 -- What a plain value prints as, and that it reads back.
-use Rattle.std.proofs.Common.{◌≡◌, ℕ, ◌+◌, ◌≤◌, ℤ, pos, negsuc, List, [], ◌∷◌, map, true, false, Some, Ok, Greater, nat_cmp, decimal, refl, ap, ap₂, ◌∙◌, arith}
-use Rattle.std.proofs.lemmas.Bool.{and_from}
+use Rattle.std.proofs.Common.{◌≡◌, ℕ, ◌+◌, ◌≤◌, ℤ, pos, negsuc, List, [], ◌∷◌, map, false, Some, Ok, Greater, nat_cmp, decimal, refl, ap, ap₂, ◌∙◌, arith}
 use Rattle.std.proofs.lemmas.Cmp.{nat_list_cmp_total}
 use Rattle.std.specs.Cmp.Lexicographic.{slice_cmp}
 use Rattle.std.specs.Ordering.{ordering_reverse}
@@ -11,10 +10,10 @@ use Rattle.serde_json.specs.Find.{as_integer, of_integer, is_float}
 use Rattle.serde_json.specs.View.{items_of as array_of}
 use Rattle.serde_json.specs.Written.{has_float, items_have_float, members_have_float}
 use Rattle.snap_core.specs.declared.snap.Snap.{Snap}
-use Rattle.snap_core.specs.Value.{Value, null, boolean, integer, text, list, dict, Parts, no_parts, part, Members, no_members, member, IsPlain, ArePlain, AreAscending, IsWhole, depth_of, parts_depth, members_depth as record_depth}
+use Rattle.snap_core.specs.Value.{Value, null, boolean, integer, text, list, dict, Parts, no_parts, part, Members, no_members, member, IsPlain, ArePlain, AreAscending, depth_of, parts_depth, members_depth as record_depth}
 use Rattle.snap_core.specs.View.{view, items_view}
 use Rattle.snap_json.specs.Printing.{data_of, items_data, members_data, built_of, items_built, members_built}
-use Rattle.snap_json.specs.Reading.{is_whole, under, mapped, joined, value_of, items_of, members_of}
+use Rattle.snap_json.specs.Reading.{under, mapped, joined, value_of, items_of, members_of}
 use Rattle.snap_json.proofs.Ordered.{ComesFirst}
 
 pub items_built-items_view : (xs : List Snap) → items_built (items_view xs) ≡ array_of (map (λ s. built_of (view s)) xs)
@@ -124,9 +123,6 @@ mutual
 
 -- ---- and it is the value again
 
-is_whole-IsWhole : (z : ℤ) → IsWhole z → is_whole z ≡ true
-is_whole-IsWhole z h = grind (arith, and_from)
-
 as_integer-of_integer : (z : ℤ) → as_integer (of_integer z) ≡ Some z
 as_integer-of_integer (pos n) = refl
 as_integer-of_integer (negsuc n) = refl
@@ -135,7 +131,7 @@ mutual
   pub value_of-data_of : (v : Value) → IsPlain v → value_of (data_of v) ≡ Ok v
   value_of-data_of null plain = refl
   value_of-data_of (boolean b) plain = refl
-  value_of-data_of (integer z) plain = rw (as_integer-of_integer z, is_whole-IsWhole z plain)
+  value_of-data_of (integer z) plain = rw (as_integer-of_integer z, plain)
   value_of-data_of (text s) plain = refl
   value_of-data_of (list a ps) plain = ap (mapped (list a)) (items_of-items_data 0 ps plain)
   value_of-data_of (dict a ms) plain = ap (mapped (dict a)) (members_of-members_data ms plain)

@@ -7,12 +7,12 @@ use Rattle.std.proofs.lemmas.Str.{IsUtf8-from_is_utf8, is_utf8-from_IsUtf8}
 use Rattle.serde_json.specs.Data as json
 use Rattle.serde_json.specs.Data.{Num, Data, Items, depth, items_depth, members_depth}
 use Rattle.serde_json.specs.Read.{read}
-use Rattle.snap_core.specs.Value.{Value, integer, list, dict, Parts, part, Members, member, IsPlain, ArePlain, AreAscending, ComesBefore, IsWhole, depth_of, parts_depth, members_depth as record_depth}
+use Rattle.snap_core.specs.Value.{Value, integer, list, dict, Parts, part, Members, member, IsPlain, ArePlain, AreAscending, ComesBefore, is_whole, depth_of, parts_depth, members_depth as record_depth}
 use Rattle.pointer_core.specs.Path.{Path}
 use Rattle.snap_json.specs.declared.read.ReadError.{ReadError}
 use Rattle.snap_json.specs.declared.read.ReadError.TheVariants.{Memory, Syntax, Whole}
 use Rattle.snap_json.specs.Fault.{IfSyntax, IfWhole, IsFaultOf}
-use Rattle.snap_json.specs.Reading.{unwhole, syntax, is_whole, whole_of, under, mapped, joined, value_of, items_of, members_of, found, found_in, reading}
+use Rattle.snap_json.specs.Reading.{unwhole, syntax, whole_of, under, mapped, joined, value_of, items_of, members_of, found, found_in, reading}
 use Rattle.snap_json.proofs.Ordered.{AllAbove, IsOrdered, AreOrdered, Ascends, ordered-read}
 
 IfOk-mapped : {A B : Type 0} (P : A → Type 0) (Q : B → Type 0) (f : A → B) → ((a : A) → P a → Q (f a)) → (r : Result A Path) → IfOk r P → IfOk (mapped f r) Q
@@ -27,11 +27,8 @@ IfOk-joined : {A B C : Type 0} (P : A → Type 0) (Q : B → Type 0) (R : C → 
 IfOk-joined P Q R f step token (Ok a) s h hs = IfOk-mapped Q R (f a) (λ b. step a b h) s hs
 IfOk-joined P Q R f step token (Err path) s h hs = tt
 
-IsWhole-is_whole : (z : ℤ) → is_whole z ≡ true → IsWhole z
-IsWhole-is_whole z h = record { low = grind arith; high = grind arith }
-
 plain_number_at : (z : ℤ) (b : Bool) → is_whole z ≡ b → IfOk {T = Value} (mapped integer (ok_or (cond b (Some z) None) [])) IsPlain
-plain_number_at z true is = IsWhole-is_whole z is
+plain_number_at z true is = is
 plain_number_at z false is = tt
 
 plain_number : (n : Num) → IfOk {T = Value} (mapped integer (ok_or (whole_of n) [])) IsPlain

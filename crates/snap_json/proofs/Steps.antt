@@ -31,11 +31,11 @@ pub members_before-none : (es : List (List ℕ × Value)) → members_before es 
 members_before-none [] = refl
 members_before-none (e ∷ es) = ap (member e.0 e.1) (members_before-none es)
 
-items_before-part : (vs : List Value) (v : Value) (ps : Parts (Unit {0})) → items_before vs (part v ps) ≡ items_before (vs ++ v ∷ []) ps
+pub items_before-part : (vs : List Value) (v : Value) (ps : Parts (Unit {0})) → items_before vs (part v ps) ≡ items_before (vs ++ v ∷ []) ps
 items_before-part [] v ps = refl
 items_before-part (w ∷ vs) v ps = ap (part w) (items_before-part vs v ps)
 
-members_before-member : (es : List (List ℕ × Value)) (e : List ℕ × Value) (ms : Members (Unit {0})) → members_before es (member e.0 e.1 ms) ≡ members_before (es ++ e ∷ []) ms
+pub members_before-member : (es : List (List ℕ × Value)) (e : List ℕ × Value) (ms : Members (Unit {0})) → members_before es (member e.0 e.1 ms) ≡ members_before (es ++ e ∷ []) ms
 members_before-member [] e ms = refl
 members_before-member (d ∷ es) e ms = ap (member d.0 d.1) (members_before-member es e ms)
 

@@ -1,3 +1,4 @@
 pub mod Fault
+pub mod Loose
 pub mod Printing
 pub mod Reading

@@ -1,12 +1,12 @@
 -- What JSON text comes to as a value.
-use Rattle.std.specs.Prelude.{ℕ, ◌+◌, ◌&&◌, ℤ, pos, negsuc, int_le, List, [], ◌∷◌, Bool, if◌then◌else◌, Option, Some, None, option_and_then, Result, Ok, Err, decimal}
+use Rattle.std.specs.Prelude.{ℕ, ◌+◌, ℤ, List, [], ◌∷◌, if◌then◌else◌, Option, Some, None, option_and_then, Result, Ok, Err, decimal}
 use Rattle.std.specs.Option.{ok_or}
 use Rattle.std.specs.Str.{is_utf8}
 use Rattle.serde_json.specs.Data as json
 use Rattle.serde_json.specs.Data.{Num, Data, Items}
 use Rattle.serde_json.specs.Find.{as_integer}
 use Rattle.serde_json.specs.Read.{read}
-use Rattle.snap_core.specs.Value.{Value, null, boolean, integer, text, list, dict, Parts, no_parts, part, Members, no_members, member}
+use Rattle.snap_core.specs.Value.{Value, null, boolean, integer, text, list, dict, Parts, no_parts, part, Members, no_members, member, is_whole}
 use Rattle.pointer_core.specs.Path.{Path}
 
 -- what reading bytes comes to: the value that they spell, the place of the first number in them that isn't whole, or nothing
@@ -14,10 +14,6 @@ pub data Reading : Type 0 where
   value : Value → Reading
   unwhole : Path → Reading
   syntax : Reading
-
--- from -9007199254740991 to 9007199254740991, the integers that a double holds one by one
-abbrev pub is_whole : ℤ → Bool
-is_whole z = int_le (negsuc 9007199254740990) z && int_le z (pos 9007199254740991)
 
 -- the integer that a number is, where it is whole
 abbrev pub whole_of : Num → Option ℤ

@@ -1,4 +1,4 @@
-ghost use Rattle.std.specs.Prelude.{◌≡◌, ◌≤◌, ◌∷◌, Option, Result, IfOk, IfErr, decimal};
+ghost use Rattle.std.specs.Prelude.{◌≡◌, ◌≤◌, false, ◌∷◌, Option, Result, IfOk, IfErr, decimal};
 ghost use Rattle.serde_json.specs.View.{number_view, view as data_view, items_view as data_items, members_view as data_members};
 ghost use Rattle.serde_json.specs.Errors.{IsMemory};
 ghost use Rattle.snap_core.specs.Value.{Value as Plain, IsPlain, depth_of};
@@ -40,7 +40,7 @@ impl From<AllocError> for ReadError {
     }
 }
 
-fn whole_number(number: &Number) -> Option<i64>
+pub fn whole_number(number: &Number) -> Option<i64>
     ensures { result ≡ whole_of (number_view number.now) }
 {
     match number.as_i128() {
@@ -100,10 +100,18 @@ fn refusal(error: &Error) -> ReadError
     ensures syntax { IfSyntax result (¬ IsMemory error.now) }
     ensures whole { IfWhole result (λ _. ⊥) }
 {
-    match error.classify() {
-        Category::Memory => ReadError::Memory,
-        _ => ReadError::Syntax,
+    if ran_out(error) {
+        ReadError::Memory
+    } else {
+        ReadError::Syntax
     }
+}
+
+/// Whether it was memory that stopped the reading.
+pub fn ran_out(error: &Error) -> bool
+    ensures { result ≡ false → ¬ IsMemory error.now }
+{
+    matches!(error.classify(), Category::Memory)
 }
 
 #[cycle(read)]

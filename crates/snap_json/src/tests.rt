@@ -1,4 +1,4 @@
-use crate::{ReadError, print_snap, read_snap};
+use crate::{ReadError, print_snap, read_loosely, read_snap};
 use list_core::Parts;
 use pointer_core::Pointer;
 use snap_core::{Bytes, Field, Snap};
@@ -145,4 +145,35 @@ fn prints(rt: HostRuntime) -> Result<(), Fail> {
         assert_eq!(rt; again.as_slice(), printed.as_slice(), "at {text}");
     }
     Ok(())
+}
+
+#[test]
+fn reads_loosely(rt: HostRuntime) -> Result<(), Fail> {
+    let alloc = rt.alloc();
+    let Some(read) = read_loosely(alloc, br#"{"a":[1.5,-0,7],"b":9007199254740992}"#)? else {
+        panic!(rt; "no reading");
+    };
+    let strict = read_snap(alloc, br#"{"a":[7,7,7],"b":7}"#)?;
+    assert!(rt; !read.equal(&strict));
+    let (Snap::Dict(fields), Some(Field { value, .. })) = (&read, first_field(&read)) else {
+        panic!(rt; "no record");
+    };
+    assert_eq!(rt; fields.len(), 2);
+    let Snap::List(items) = value else {
+        panic!(rt; "no list");
+    };
+    for (at, whole) in [(0, false), (1, false), (2, true)] {
+        let is_seven = matches!(items.get(at), Some(Snap::Int(7)));
+        let is_past = matches!(items.get(at), Some(Snap::Int(9_007_199_254_740_992)));
+        assert_eq!(rt; (is_seven, is_past), (whole, !whole), "item {at}");
+    }
+    assert!(rt; read_loosely(alloc, b"{")?.is_none());
+    Ok(())
+}
+
+fn first_field(value: &Snap) -> Option<&Field> {
+    match value {
+        Snap::Dict(fields) => fields.get(0),
+        _ => None,
+    }
 }
