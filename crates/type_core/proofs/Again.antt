@@ -1,34 +1,34 @@
--- What is made is plain, is made again as it is, and is within the limits.
-use Rattle.std.proofs.Common.{◌≡◌, ℕ, List, [], Bool, true, false, IsTrue, Option, Some, None, Result, Ok, Err, IfSome, IfOk, IsErrAnd, MatchResult, slice_get, if◌then◌else◌, refl, sym, ap, subst}
+-- What is made is made again as it is, is plain, and is within the limits.
+use Rattle.std.proofs.Common.{◌≡◌, ℕ, List, [], Bool, true, false, IsTrue, Option, Some, None, Result, Ok, Err, IfSome, IfOk, IsErrAnd, MatchResult, if◌then◌else◌, refl, sym, ap, subst}
 use Rattle.std.specs.declared.cmp.Ordering.TheVariants.{Less}
+use Rattle.std.specs.Borrow.{Bor}
 use Rattle.std.specs.Str.{bytes_eq}
 use Rattle.std.proofs.lemmas.Cmp.{nat_list_cmp_total, tied_itself}
 use Rattle.std.proofs.lemmas.Slice.Eq.{bytes_eq-Decides}
+use Rattle.std.proofs.lemmas.Option.{slice_get_within, get_or_from_slice_get}
 use Rattle.pointer_core.specs.declared.refusal.Rule.TheVariants.{Large}
 use Rattle.snap_core.specs.declared.snap.Snap.{Snap}
+use Rattle.snap_core.specs.declared.number.TypeNo.{TypeNo}
 use Rattle.snap_core.specs.Value as value
-use Rattle.snap_core.specs.Value.{Value, Members, no_members, member, IsPlain, AreAscending, dict}
+use Rattle.snap_core.specs.Value.{Value, null, boolean, integer, text, list, dict, Parts, no_parts, part, Members, no_members, member, IsPlain, ArePlain, AreAscending}
 use Rattle.snap_core.specs.View.{view}
 use Rattle.type_core.specs.declared.making.MakeError.{MakeError}
 use Rattle.type_core.specs.declared.making.MakeError.TheVariants.{Memory, Refused}
+use Rattle.type_core.specs.declared.shape.Shape.{Shape}
+use Rattle.type_core.specs.declared.shape.Shape.TheVariants.{Optional}
 use Rattle.type_core.specs.declared.shape.Property.{Property}
-use Rattle.type_core.specs.declared.shape.ModelType.{ModelType}
-use Rattle.type_core.specs.Table.{Table, ComesBefore, AreNamed, IsSound, properties_of}
+use Rattle.type_core.specs.Table.{Table, Catalog, shape_at, properties_of, plan_of, ComesBefore, AreNamed, IsShapeOf}
+use Rattle.snap_core.specs.Value.{value_at}
+use Rattle.type_core.specs.Judging.{is_null}
 use Rattle.type_core.specs.Making.{Outcome, made_by, is_within, limited, making}
-use Rattle.type_core.specs.Makes.{Makes, string, whole, truth, model, MakesEach, no_more, one_more, MakesWithin, value_at}
-use Rattle.type_core.specs.Made.{Answers}
-use Rattle.type_core.proofs.Sound.{AreNamed-properties}
-use Rattle.type_core.proofs.Steps.{IsPlain-value_at}
-use Rattle.type_core.proofs.Finding.{key_cmp, bytes_eq-Equal, bytes_eq-Less}
-use Rattle.type_core.proofs.Laws.{made_by-sound, made_by-complete}
-
--- the properties of each model are named
-pub AreNamed-properties_of : (table : Table) (m : ℕ) → IsSound table → AreNamed (properties_of table m)
-AreNamed-properties_of table m sound = by_model (slice_get table.models m) refl
-  where
-    by_model : (found : Option ModelType) → slice_get table.models m ≡ found → AreNamed (properties_of table m)
-    by_model None e = rw e tt
-    by_model (Some found) e = rw e (AreNamed-properties table m found sound e)
+use Rattle.type_core.specs.Makes.{IsMaybe, Makes, string, whole, truth, nothing, literal, enumeration, frozen, frozen_absent, optional, optional_absent, maybe_of_null, maybe_absent, maybe_other, union, refinement, array, array_absent, map, map_absent, model, name, MakesItems, no_items, one_item, MakesValues, no_values, one_value, MakesEach, no_more, one_more, MakesWithin}
+use Rattle.type_core.specs.Made.{Answers, value_of}
+use Rattle.type_core.specs.Sound.{IsSound}
+use Rattle.type_core.proofs.Sound.{AreNamed-properties_of, IsShapeOf-shape}
+use Rattle.snap_core.proofs.Keys.{IsPlain-value_at}
+use Rattle.snap_core.proofs.Finding.{key_cmp, bytes_eq-Equal, bytes_eq-Less}
+use Rattle.type_core.proofs.Choosing.{chosen-again}
+use Rattle.type_core.proofs.Laws.{is_null-null, other-is_null, made_by-sound, made_by-complete}
 
 -- each value of a plain record is plain, if there is one
 pub IfSome-value_at : (key : List ℕ) (ms : Members (Unit {0})) → AreAscending ms → IfSome (value_at key ms) IsPlain
@@ -39,65 +39,145 @@ IfSome-value_at key ms plain = by_value (value_at key ms) refl
     by_value (Some v) e = IsPlain-value_at key ms v plain e
 
 -- a name before the properties' comes before the keys that are made of them
-pub ComesBefore-made : (table : Table) (name : List ℕ) (given : Members (Unit {0})) (ps : List Property) (made : Members (Unit {0}))
-    → MakesEach table given ps made → ComesBefore name ps → value.ComesBefore name made
-ComesBefore-made table name _ _ _ (no_more given) before = tt
-ComesBefore-made table name _ _ _ (one_more given p ps v made one rest) before = before
+pub ComesBefore-made : (table : Table) (key : List ℕ) (given : Members (Unit {0})) (ps : List Property) (made : Members (Unit {0}))
+    → MakesEach table given ps made → ComesBefore key ps → value.ComesBefore key made
+ComesBefore-made table key _ _ _ (no_more given) before = tt
+ComesBefore-made table key _ _ _ (one_more given p ps v made one rest) before = before
 
-mutual
-  -- what is made of a plain value is plain
-  pub IsPlain-made : (table : Table) → IsSound table → (t : ℕ) (x : Option Value) (s : Value) → Makes table t x s → IfSome x IsPlain → IsPlain s
-  IsPlain-made table sound _ _ _ (string t s e) plain = tt
-  IsPlain-made table sound _ _ _ (whole t z e) plain = plain
-  IsPlain-made table sound _ _ _ (truth t b e) plain = tt
-  IsPlain-made table sound _ _ _ (model t m given made e each) plain =
-      AreAscending-made table sound given (properties_of table m.0) made each (AreNamed-properties_of table m.0 sound) plain
+-- a key before those of a record comes before the same keys
+pub ComesBefore-values : (table : Table) (t : ℕ) (key : List ℕ) (given made : Members (Unit {0}))
+    → MakesValues table t given made → value.ComesBefore key given → value.ComesBefore key made
+ComesBefore-values table _ key _ _ (no_values t) before = tt
+ComesBefore-values table _ key _ _ (one_value t k v s given made one rest) before = before
 
-  pub AreAscending-made : (table : Table) → IsSound table → (given : Members (Unit {0})) (ps : List Property) (made : Members (Unit {0}))
-      → MakesEach table given ps made → AreNamed ps → AreAscending given → AreAscending made
-  AreAscending-made table sound _ _ _ (no_more given) named plain = tt
-  AreAscending-made table sound _ _ _ (one_more given p ps v made one rest) named plain = (
-    IsPlain-made table sound p.of.0 (value_at p.name given) v one (IfSome-value_at p.name given plain),
-    ComesBefore-made table p.name given ps made rest named.0,
-    AreAscending-made table sound given ps made rest named.1 plain,
-  )
+-- a default is plain
+pub IsPlain-default : (types : Catalog) → IsSound types → (t : ℕ) (u : TypeNo) (d : Snap) → shape_at types.table t ≡ Some (Optional u d) → IsPlain (view d)
+IsPlain-default types sound t u d e =
+    let shape : Shape = Optional u d in
+    let within = slice_get_within types.table.shapes t shape e in
+    let P : Shape → Type 0 = IsShapeOf (plan_of types.table) in
+    let of : IsShapeOf (plan_of types.table) shape = subst P (get_or_from_slice_get types.table.shapes t shape shape e) (IsShapeOf-shape types t shape sound within) in
+    of.plain
 
 -- a key that is made comes after a name before the properties'
-pub key-after : (table : Table) (name : List ℕ) (given : Members (Unit {0})) (ps : List Property) (made : Members (Unit {0}))
-    → MakesEach table given ps made → ComesBefore name ps → AreNamed ps
-    → (key : List ℕ) (w : Value) → value_at key made ≡ Some w → key_cmp name key ≡ Less
-key-after table name _ _ _ (no_more given) before named = λ key w h. cc
-key-after table name _ _ _ (one_more given p ps v made one rest) before named = λ key w h.
+pub key-after : (table : Table) (first : List ℕ) (given : Members (Unit {0})) (ps : List Property) (made : Members (Unit {0}))
+    → MakesEach table given ps made → ComesBefore first ps → AreNamed ps
+    → (key : List ℕ) (w : Value) → value_at key made ≡ Some w → key_cmp first key ≡ Less
+key-after table first _ _ _ (no_more given) before named = λ key w h. cc
+key-after table first _ _ _ (one_more given p ps v made one rest) before named = λ key w h.
     by_test key w (key-after table p.name given ps made rest named.0 named.1 key w) (bytes_eq key p.name) refl h
   where
     by_test : (key : List ℕ) (w : Value) → (value_at key made ≡ Some w → key_cmp p.name key ≡ Less)
-        → (b : Bool) → bytes_eq key p.name ≡ b → (if b then Some v else value_at key made) ≡ Some w → key_cmp name key ≡ Less
-    by_test key w later true e h = let P : List ℕ → Type 0 = λ k. key_cmp name k ≡ Less in subst P (sym ((bytes_eq-Decides key p.name).0 e)) before
-    by_test key w later false e h = nat_list_cmp_total.trans name p.name key before (later h)
+        → (b : Bool) → bytes_eq key p.name ≡ b → (if b then Some v else value_at key made) ≡ Some w → key_cmp first key ≡ Less
+    by_test key w later true e h = let P : List ℕ → Type 0 = λ k. key_cmp first k ≡ Less in subst P (sym ((bytes_eq-Decides key p.name).0 e)) before
+    by_test key w later false e h = nat_list_cmp_total.trans first p.name key before (later h)
 
-mutual
-  -- what is made of a value is made of itself
-  pub Makes-again : (table : Table) → IsSound table → (t : ℕ) (x : Option Value) (s : Value) → Makes table t x s → Makes table t (Some s) s
-  Makes-again table sound _ _ _ (string t s e) = string t s e
-  Makes-again table sound _ _ _ (whole t z e) = whole t z e
-  Makes-again table sound _ _ _ (truth t b e) = truth t b e
-  Makes-again table sound _ _ _ (model t m given made e each) =
-      model t m made made e (MakesEach-again table sound given (properties_of table m.0) made each (AreNamed-properties_of table m.0 sound) made (λ key v h. h))
+-- what a maybe makes is made again: null, or what its type makes again
+pub maybe-again : (table : Table) (t : ℕ) (shape : Shape) (u : TypeNo) (s : Value) → shape_at table t ≡ Some shape → IsMaybe shape u
+    → Makes table u.0 (Some s) s → Makes table t (Some s) s
+maybe-again table t shape u s e is again = by_test (is_null s) refl
+  where
+    by_test : (b : Bool) → is_null s ≡ b → Makes table t (Some s) s
+    by_test true n = let P : Value → Type 0 = λ w. Makes table t (Some w) w in subst P (sym (is_null-null s n)) (maybe_of_null t shape u e is)
+    by_test false n = maybe_other t shape u s s e is (other-is_null s n) again
 
-  pub MakesEach-again : (table : Table) → IsSound table → (given : Members (Unit {0})) (ps : List Property) (made : Members (Unit {0}))
-      → MakesEach table given ps made → AreNamed ps → (all : Members (Unit {0}))
-      → ((key : List ℕ) (v : Value) → value_at key made ≡ Some v → value_at key all ≡ Some v) → MakesEach table all ps made
-  MakesEach-again table sound _ _ _ (no_more given) named all among = no_more all
-  MakesEach-again table sound _ _ _ (one_more given p ps v made one rest) named all among =
-      let same : bytes_eq p.name p.name ≡ true = bytes_eq-Equal p.name p.name (tied_itself nat_list_cmp_total p.name) in
-      let here : value_at p.name (member p.name v made) ≡ Some v = rw same in
-      let P : Option Value → Type 0 = λ x. Makes table p.of.0 x v in
-      one_more all p ps v made (subst P (sym (among p.name v here)) (Makes-again table sound p.of.0 (value_at p.name given) v one))
-      (MakesEach-again table sound given ps made rest named.1 all
-      (λ key w h.
-      let other : bytes_eq key p.name ≡ false = bytes_eq-Less key p.name (key-after table p.name given ps made rest named.0 named.1 key w h) in
-      let there : value_at key (member p.name v made) ≡ Some w = rw other h in
-      among key w there))
+module _ (types : Catalog) (sound : IsSound types) where
+  mutual
+    -- what is made of a plain value, or of none, is plain
+    pub Makes-plain : (t : ℕ) (x : Option Value) (s : Value) → Makes types.table t x s → IfSome x IsPlain → IsPlain s
+    Makes-plain _ _ _ (string t s e) plain = tt
+    Makes-plain _ _ _ (whole t z e) plain = plain
+    Makes-plain _ _ _ (truth t b e) plain = tt
+    Makes-plain _ _ _ (nothing t e) plain = tt
+    Makes-plain _ _ _ (literal t l v e same) plain = plain
+    Makes-plain _ _ _ (enumeration t ts s e has) plain = tt
+    Makes-plain _ _ _ (frozen t v e) plain = plain
+    Makes-plain _ _ _ (frozen_absent t e) plain = tt
+    Makes-plain _ _ _ (optional t u d v s e made) plain = Makes-plain u.0 (Some v) s made plain
+    Makes-plain _ _ _ (optional_absent t u d s e made light) plain = Makes-plain u.0 (Some (view d)) s made (IsPlain-default types sound t u d e)
+    Makes-plain _ _ _ (maybe_of_null t shape u e is) plain = tt
+    Makes-plain _ _ _ (maybe_absent t shape u e is) plain = tt
+    Makes-plain _ _ _ (maybe_other t shape u v s e is ne made) plain = Makes-plain u.0 (Some v) s made plain
+    Makes-plain _ _ _ (union t ms m v s e c made) plain = Makes-plain m.0 (Some v) s made plain
+    Makes-plain _ _ _ (refinement t u cs v e based admitted) plain = plain
+    Makes-plain _ _ _ (array t u given made e each) plain = MakesItems-plain u.0 given made each plain
+    Makes-plain _ _ _ (array_absent t u e) plain = tt
+    Makes-plain _ _ _ (map t u given made e each) plain = MakesValues-plain u.0 given made each plain
+    Makes-plain _ _ _ (map_absent t u e) plain = tt
+    Makes-plain _ _ _ (model t m given made e each) plain =
+        MakesEach-plain given (properties_of types.table m.0) made each (AreNamed-properties_of types m.0 sound) plain
+    Makes-plain _ _ _ (name t u x s e made) plain = Makes-plain u.0 x s made plain
+
+    pub MakesItems-plain : (t : ℕ) (given made : Parts (Unit {0})) → MakesItems types.table t given made → ArePlain given → ArePlain made
+    MakesItems-plain _ _ _ (no_items t) plain = tt
+    MakesItems-plain _ _ _ (one_item t v s given made one rest) plain = (Makes-plain t (Some v) s one plain.0, MakesItems-plain t given made rest plain.1)
+
+    pub MakesValues-plain : (t : ℕ) (given made : Members (Unit {0})) → MakesValues types.table t given made → AreAscending given → AreAscending made
+    MakesValues-plain _ _ _ (no_values t) plain = tt
+    MakesValues-plain _ _ _ (one_value t k v s given made one rest) plain = (
+      Makes-plain t (Some v) s one plain.0,
+      ComesBefore-values types.table t k given made rest plain.1,
+      MakesValues-plain t given made rest plain.2,
+    )
+
+    pub MakesEach-plain : (given : Members (Unit {0})) (ps : List Property) (made : Members (Unit {0}))
+        → MakesEach types.table given ps made → AreNamed ps → AreAscending given → AreAscending made
+    MakesEach-plain _ _ _ (no_more given) named plain = tt
+    MakesEach-plain _ _ _ (one_more given p ps v made one rest) named plain = (
+      Makes-plain p.of.0 (value_at p.name given) v one (IfSome-value_at p.name given plain),
+      ComesBefore-made types.table p.name given ps made rest named.0,
+      MakesEach-plain given ps made rest named.1 plain,
+    )
+
+  mutual
+    -- what is made is made of itself
+    pub Makes-again : (t : ℕ) (x : Option Value) (s : Value) → Makes types.table t x s → Makes types.table t (Some s) s
+    Makes-again _ _ _ (string t s e) = string t s e
+    Makes-again _ _ _ (whole t z e) = whole t z e
+    Makes-again _ _ _ (truth t b e) = truth t b e
+    Makes-again _ _ _ (nothing t e) = nothing t e
+    Makes-again _ _ _ (literal t l v e same) = literal t l v e same
+    Makes-again _ _ _ (enumeration t ts s e has) = enumeration t ts s e has
+    Makes-again _ _ _ (frozen t v e) = frozen t v e
+    Makes-again _ _ _ (frozen_absent t e) = frozen t null e
+    Makes-again _ _ _ (optional t u d v s e made) = optional t u d s s e (Makes-again u.0 (Some v) s made)
+    Makes-again _ _ _ (optional_absent t u d s e made light) = optional t u d s s e (Makes-again u.0 (Some (view d)) s made)
+    Makes-again _ _ _ (maybe_of_null t shape u e is) = maybe_of_null t shape u e is
+    Makes-again _ _ _ (maybe_absent t shape u e is) = maybe_of_null t shape u e is
+    Makes-again _ _ _ (maybe_other t shape u v s e is ne made) = maybe-again types.table t shape u s e is (Makes-again u.0 (Some v) s made)
+    Makes-again _ _ _ (union t ms m v s e c made) = union t ms m s s e (chosen-again types.table ms m v s (λ k. AreNamed-properties_of types k sound) c made) (Makes-again m.0 (Some v) s made)
+    Makes-again _ _ _ (refinement t u cs v e based admitted) = refinement t u cs v e based admitted
+    Makes-again _ _ _ (array t u given made e each) = array t u made made e (MakesItems-again u.0 given made each)
+    Makes-again _ _ _ (array_absent t u e) = array t u no_parts no_parts e (no_items u.0)
+    Makes-again _ _ _ (map t u given made e each) = map t u made made e (MakesValues-again u.0 given made each)
+    Makes-again _ _ _ (map_absent t u e) = map t u no_members no_members e (no_values u.0)
+    Makes-again _ _ _ (model t m given made e each) =
+        model t m made made e (MakesEach-again given (properties_of types.table m.0) made each (AreNamed-properties_of types m.0 sound) made (λ key v h. h))
+    Makes-again _ _ _ (name t u x s e made) = name t u (Some s) s e (Makes-again u.0 x s made)
+
+    pub MakesItems-again : (t : ℕ) (given made : Parts (Unit {0})) → MakesItems types.table t given made → MakesItems types.table t made made
+    MakesItems-again _ _ _ (no_items t) = no_items t
+    MakesItems-again _ _ _ (one_item t v s given made one rest) = one_item t s s made made (Makes-again t (Some v) s one) (MakesItems-again t given made rest)
+
+    pub MakesValues-again : (t : ℕ) (given made : Members (Unit {0})) → MakesValues types.table t given made → MakesValues types.table t made made
+    MakesValues-again _ _ _ (no_values t) = no_values t
+    MakesValues-again _ _ _ (one_value t k v s given made one rest) =
+        one_value t k s s made made (Makes-again t (Some v) s one) (MakesValues-again t given made rest)
+
+    pub MakesEach-again : (given : Members (Unit {0})) (ps : List Property) (made : Members (Unit {0}))
+        → MakesEach types.table given ps made → AreNamed ps → (all : Members (Unit {0}))
+        → ((key : List ℕ) (v : Value) → value_at key made ≡ Some v → value_at key all ≡ Some v) → MakesEach types.table all ps made
+    MakesEach-again _ _ _ (no_more given) named all among = no_more all
+    MakesEach-again _ _ _ (one_more given p ps v made one rest) named all among =
+        let same : bytes_eq p.name p.name ≡ true = bytes_eq-Equal p.name p.name (tied_itself nat_list_cmp_total p.name) in
+        let here : value_at p.name (member p.name v made) ≡ Some v = rw same in
+        let P : Option Value → Type 0 = λ x. Makes types.table p.of.0 x v in
+        one_more all p ps v made (subst P (sym (among p.name v here)) (Makes-again p.of.0 (value_at p.name given) v one))
+        (MakesEach-again given ps made rest named.1 all
+        (λ key w h.
+        let other : bytes_eq key p.name ≡ false = bytes_eq-Less key p.name (key-after types.table p.name given ps made rest named.0 named.1 key w h) in
+        let there : value_at key (member p.name v made) ≡ Some w = rw other h in
+        among key w there))
 
 -- what is limited and made is within the limits
 pub limited-Ok : (o : Outcome Value) (s : Value) → limited o ≡ Ok s → (o ≡ Ok s) × IsTrue (is_within s)
@@ -115,44 +195,53 @@ limited-Ok (Ok v) s h = by_test (is_within v) refl
         cc
 
 -- the table with its limits and making with them
-pub making-sound : (table : Table) (t : ℕ) (x : Option Value) (s : Value) → making table t x ≡ Ok s → MakesWithin table t x s
-making-sound table t x s h = let parts = limited-Ok (made_by table t x) s h in (made_by-sound table t x s parts.0, parts.1)
+module _ (types : Catalog) (sound : IsSound types) where
+  pub making-sound : (t : ℕ) (x : Option Value) (s : Value) → making types t x ≡ Ok s → MakesWithin types.table t x s
+  making-sound t x s h =
+      let parts = limited-Ok (made_by types.table types.defaults t x) s h in (made_by-sound types.table types.defaults sound.made t x s parts.0, parts.1)
 
-pub making-complete : (table : Table) (t : ℕ) (x : Option Value) (s : Value) → MakesWithin table t x s → making table t x ≡ Ok s
-making-complete table t x s h = rw (made_by-complete table t x s h.0, h.1)
+  pub making-complete : (t : ℕ) (x : Option Value) (s : Value) → MakesWithin types.table t x s → making types t x ≡ Ok s
+  making-complete t x s h = rw (made_by-complete types.table types.defaults sound.loopless sound.all t x s h.0, h.1)
 
-pub making-again : (table : Table) → IsSound table → (t : ℕ) (x : Option Value) (s : Value) → making table t x ≡ Ok s → making table t (Some s) ≡ Ok s
-making-again table sound t x s h =
-    let parts = making-sound table t x s h in
-    making-complete table t (Some s) s (Makes-again table sound t x s parts.0, parts.1)
+  pub making-plain : (t : ℕ) (x : Option Value) (s : Value) → making types t x ≡ Ok s → IfSome x IsPlain → IsPlain s
+  making-plain t x s h plain = Makes-plain types sound t x s (making-sound t x s h).0 plain
 
-pub making-plain : (table : Table) → IsSound table → (t : ℕ) (x : Option Value) (s : Value) → making table t x ≡ Ok s → IfSome x IsPlain → IsPlain s
-making-plain table sound t x s h plain = IsPlain-made table sound t x s (making-sound table t x s h).0 plain
+  pub making-again : (t : ℕ) (x : Option Value) (s : Value) → making types t x ≡ Ok s → making types t (Some s) ≡ Ok s
+  making-again t x s h =
+      let parts = making-sound t x s h in
+      making-complete t (Some s) s (Makes-again types sound t x s parts.0, parts.1)
 
 -- what an answer says of the outcome, by the table
-module _ (table : Table) (t : ℕ) (x : Option Value) where
-  pub answer-table : (result : Result Snap MakeError) → Answers view result (making table t x) → IfOk result (λ s. MakesWithin table t x (view s))
-  answer-table (Ok s) h = making-sound table t x (view s) h
+module _ (types : Catalog) (sound : IsSound types) (t : ℕ) (x : Option Value) where
+  pub answer-table : (result : Result Snap MakeError) → Answers view result (making types t x) → IfOk result (λ s. MakesWithin types.table t x (view s))
+  answer-table (Ok s) h = making-sound types sound t x (view s) h
   answer-table (Err e) h = tt
 
-  pub answer-only : (result : Result Snap MakeError) → Answers view result (making table t x) → (s : Value) → MakesWithin table t x s
+  pub answer-only : (result : Result Snap MakeError) → Answers view result (making types t x) → (s : Value) → MakesWithin types.table t x s
       → MatchResult result (λ made. view made ≡ s) (λ e. e ≡ Memory)
-  answer-only (Ok made) h = λ s row. let e = making-complete table t x s row in cc
-  answer-only (Err (Refused r)) h = λ s row. let e = making-complete table t x s row in cc
+  answer-only (Ok made) h = λ s row. let e = making-complete types sound t x s row in cc
+  answer-only (Err (Refused r)) h = λ s row. let e = making-complete types sound t x s row in cc
   answer-only (Err Memory) h = λ s row. refl
 
-  pub answer-again : (result : Result Snap MakeError) → IsSound table → Answers view result (making table t x) → IfOk result (λ s. making table t (Some (view s)) ≡ Ok (view s))
-  answer-again (Ok s) sound h = making-again table sound t x (view s) h
-  answer-again (Err e) sound h = tt
+  pub answer-again : (result : Result Snap MakeError) → Answers view result (making types t x)
+      → IfOk result (λ s. making types t (Some (view s)) ≡ Ok (view s))
+  answer-again (Ok s) h = making-again types sound t x (view s) h
+  answer-again (Err e) h = tt
 
-  pub answer-plain : (result : Result Snap MakeError) → IsSound table → IfSome x IsPlain → Answers view result (making table t x) → IfOk result (λ s. IsPlain (view s))
-  answer-plain (Ok s) sound plain h = making-plain table sound t x (view s) h plain
-  answer-plain (Err e) sound plain h = tt
+  pub answer-plain : (result : Result Snap MakeError) → IfSome x IsPlain → Answers view result (making types t x) → IfOk result (λ s. IsPlain (view s))
+  answer-plain (Ok s) plain h = making-plain types sound t x (view s) h plain
+  answer-plain (Err e) plain h = tt
 
-  -- an error on the way is the answer
-  pub answer-handed_on : (e : MakeError) (result : Result Snap MakeError) → IsErrAnd result (λ r. r ≡ e) → Answers {T = Snap} view (Err e) (made_by table t x) → Answers view result (making table t x)
-  answer-handed_on e (Ok s) is h = absurd is
-  answer-handed_on (Refused r) (Err f) is h =
-      let P : MakeError → Type 0 = λ f. Answers {T = Snap} view (Err f) (making table t x) in subst P (sym is) (ap limited h)
-  answer-handed_on Memory (Err f) is h =
-      let P : MakeError → Type 0 = λ f. Answers {T = Snap} view (Err f) (making table t x) in subst P (sym is) tt
+-- an error on the way is the answer
+pub answer-handed_on : (types : Catalog) (t : ℕ) (x : Option Value) (e : MakeError) (result : Result Snap MakeError) → IsErrAnd result (λ r. r ≡ e)
+    → Answers {T = Snap} view (Err e) (made_by types.table types.defaults t x) → Answers view result (making types t x)
+answer-handed_on types t x e (Ok s) is h = absurd is
+answer-handed_on types t x (Refused r) (Err f) is h =
+    let P : MakeError → Type 0 = λ f. Answers {T = Snap} view (Err f) (making types t x) in subst P (sym is) (ap limited h)
+answer-handed_on types t x Memory (Err f) is h =
+    let P : MakeError → Type 0 = λ f. Answers {T = Snap} view (Err f) (making types t x) in subst P (sym is) tt
+
+-- the value that is given is plain, if there is one
+pub IfSome-value_of : (given : Option (Bor Snap)) → IfSome given (λ s. IsPlain (view s.now)) → IfSome (value_of given) IsPlain
+IfSome-value_of None plain = tt
+IfSome-value_of (Some s) plain = plain

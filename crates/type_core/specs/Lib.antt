@@ -1,4 +1,13 @@
 pub mod Table
+pub mod Names
+pub mod Unions
+pub mod Judging
 pub mod Making
 pub mod Makes
 pub mod Made
+pub mod Faults
+pub mod Sound
+pub mod JudgingSteps
+pub mod Reaching
+pub mod Defaulting
+pub mod Passes

@@ -25,7 +25,7 @@ Answers seen (Ok made) outcome = outcome ≡ Ok (seen made)
 Answers seen (Err (Refused r)) outcome = outcome ≡ Err (refused_as r)
 Answers seen (Err Memory) outcome = Unit {0}
 
--- a refusal for which a fact holds, or memory that ran out
+-- a fact of the refusal, where there is one
 abbrev pub IfRefused : {T : Type 0} → Result T MakeError → (Refusal → Type 0) → Type 0
 IfRefused (Ok made) P = Unit {0}
 IfRefused (Err (Refused r)) P = P r

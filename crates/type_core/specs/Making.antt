@@ -1,14 +1,22 @@
 -- Making: what a type makes of a value or of none, or the first refusal in document order.
-use Rattle.std.specs.Prelude.{ℕ, List, [], ◌∷◌, Bool, ◌&&◌, nat_le, Option, Some, None, Result, Ok, Err, if◌then◌else◌}
+use Rattle.std.specs.Prelude.{ℕ, ◌+◌, ◌==◌, pos, int_le, List, [], ◌∷◌, Bool, false, ◌&&◌, nat_le, Option, Some, None, Result, Ok, Err, decimal, if◌then◌else◌}
+use Rattle.std.specs.List.{list_all, starts_with}
 use Rattle.std.specs.Str.{bytes_eq}
-use Rattle.snap_core.specs.Value.{Value, Tree, null, boolean, integer, text, list, dict, Members, no_members, member, weight_of, depth_of}
+use Rattle.std.specs.Fmt.{char_count}
+use Rattle.snap_core.specs.Value.{Value, null, boolean, integer, text, list, dict, Parts, no_parts, part, Members, no_members, member, weight_of, depth_of}
+use Rattle.snap_core.specs.declared.snap.Snap.{Snap}
 use Rattle.pointer_core.specs.Path.{Path}
 use Rattle.pointer_core.specs.declared.refusal.Rule.{Rule}
-use Rattle.pointer_core.specs.declared.refusal.Rule.TheVariants.{Mistyped, Large}
+use Rattle.pointer_core.specs.declared.refusal.Rule.TheVariants.{Mistyped, Refine, Large}
 use Rattle.type_core.specs.declared.shape.Shape.{Shape}
-use Rattle.type_core.specs.declared.shape.Shape.TheVariants.{Str, Integer, Boolean, Model}
+use Rattle.type_core.specs.declared.shape.Shape.TheVariants.{Frozen, Optional, Maybe, MaybeNull, Refinement, Array, Map, Model}
+use Rattle.type_core.specs.declared.shape.Condition.{Condition}
+use Rattle.type_core.specs.declared.shape.Condition.TheVariants.{Min, Max, MinLength, MaxLength, StartsWith}
 use Rattle.type_core.specs.declared.shape.Property.{Property}
-use Rattle.type_core.specs.Table.{Table, shape_at, properties_of}
+use Rattle.type_core.specs.Table.{Table, Catalog, shape_at, properties_of, default_at}
+use Rattle.type_core.specs.Names.{named_by}
+use Rattle.type_core.specs.Unions.{takes}
+use Rattle.type_core.specs.Judging.{judged_by}
 
 -- the rule that isn't met, and where
 pub record Refused : Type 0 where
@@ -19,36 +27,78 @@ pub record Refused : Type 0 where
 abbrev pub Outcome : Type 0 → Type 0
 Outcome A = Result A Refused
 
+-- a rule that isn't met at the place itself
+abbrev pub refused : {A : Type 0} → Rule → Outcome A
+refused rule = Err (record { path = []; rule = rule })
+
 -- a value that its type doesn't take
 abbrev pub mistyped : {A : Type 0} → Outcome A
-mistyped = Err (record { path = []; rule = Mistyped })
+mistyped = refused Mistyped
 
 -- the same outcome, one step further down
 abbrev pub under : {A : Type 0} → List ℕ → Outcome A → Outcome A
 under token (Ok made) = Ok made
 under token (Err e) = Err (record { path = token ∷ e.path; rule = e.rule })
 
+-- whether a condition admits a value: bounds are for integers, lengths and a beginning for texts
+abbrev pub admits : Value → Condition → Bool
+admits (integer z) (Min least) = int_le least z
+admits (integer z) (Max most) = int_le z most
+admits (text s) (MinLength least) = int_le least (pos (char_count s))
+admits (text s) (MaxLength most) = int_le (pos (char_count s)) most
+admits (text s) (StartsWith beginning) = starts_with ◌==◌ s beginning
+admits _ _ = false
+
+-- the conditions of a refinement
+abbrev pub conditions_of : Option Shape → List Condition
+conditions_of (Some (Refinement u cs)) = cs
+conditions_of _ = []
+
+-- the value, where the conditions admit it
+abbrev pub refined : List Condition → Value → Outcome Value
+refined cs v = if list_all (admits v) cs then Ok v else refused Refine
+
+-- a scalar is made as it is, where the shape takes it and its conditions admit it
+abbrev pub scalar_made : Table → Value → Option Shape → Outcome Value
+scalar_made table v shape = if takes table shape v then refined (conditions_of shape) v else mistyped
+
 -- what making a value comes to at each type, by number
 abbrev pub Maker : Type 0
 Maker = ℕ → Outcome Value
 
+-- the default, where it is known
+abbrev pub default_made : Option Value → Outcome Value
+default_made (Some v) = Ok v
+default_made None = mistyped
+
+-- what a type that stands at this number itself makes where no value is given
+abbrev pub absent_made : List (Option Snap) → ℕ → Option Shape → Outcome Value
+absent_made defaults t (Some (Optional u d)) = default_made (default_at defaults t)
+absent_made defaults t (Some (Maybe u)) = Ok null
+absent_made defaults t (Some (MaybeNull u)) = Ok null
+absent_made defaults t (Some Frozen) = Ok null
+absent_made defaults t (Some (Array u)) = Ok (list tt no_parts)
+absent_made defaults t (Some (Map u)) = Ok (dict tt no_members)
+absent_made defaults t _ = mistyped
+
+-- what a type makes where no value is given, names followed
+abbrev pub absent : Table → List (Option Snap) → Maker
+absent table defaults t = absent_made defaults (named_by table t) (shape_at table (named_by table t))
+
+-- one item in front of those that follow, unless one of them is refused
+abbrev pub part_made : Outcome Value → Outcome (Parts (Unit {0})) → Outcome (Parts (Unit {0}))
+part_made (Err e) rest = Err e
+part_made (Ok v) (Err e) = Err e
+part_made (Ok v) (Ok made) = Ok (part v made)
+
+-- the items from this index on, each by the type
+abbrev pub items_made : ℕ → ℕ → List Maker → Outcome (Parts (Unit {0}))
+items_made i t [] = Ok no_parts
+items_made i t (m ∷ ms) = part_made (under (decimal i) (m t)) (items_made (i + 1) t ms)
+
 -- a field of a record: its key, and what making its value comes to
 abbrev pub Fields : Type 0
 Fields = List (List ℕ × Maker)
-
--- what stands under a key
-abbrev pub field_at : List ℕ → Fields → Option Maker
-field_at key [] = None
-field_at key (f ∷ fs) = if bytes_eq key f.0 then Some f.1 else field_at key fs
-
--- what a type makes where there is no value: none of these types makes anything of it
-abbrev pub absent : Table → Maker
-absent table t = mistyped
-
--- the property's field is made by the property's type, or nothing is where there is no such field
-abbrev pub property_made : Table → Property → Option Maker → Outcome Value
-property_made table p (Some maker) = maker p.of.0
-property_made table p None = absent table p.of.0
 
 -- the entry in front of those that follow, unless one of them is refused
 abbrev pub entry_made : List ℕ → Outcome Value → Outcome (Members (Unit {0})) → Outcome (Members (Unit {0}))
@@ -56,53 +106,74 @@ entry_made name (Err e) rest = Err e
 entry_made name (Ok v) (Err e) = Err e
 entry_made name (Ok v) (Ok made) = Ok (member name v made)
 
+-- the values of a map, each by the type
+abbrev pub entries_made : ℕ → Fields → Outcome (Members (Unit {0}))
+entries_made t [] = Ok no_members
+entries_made t (f ∷ fs) = entry_made f.0 (under f.0 (f.1 t)) (entries_made t fs)
+
+-- what stands under a key
+abbrev pub field_at : List ℕ → Fields → Option Maker
+field_at key [] = None
+field_at key (f ∷ fs) = if bytes_eq key f.0 then Some f.1 else field_at key fs
+
+-- what the property's type makes of the property's field, or where there is no such field
+abbrev pub property_made : Maker → Property → Option Maker → Outcome Value
+property_made absent p (Some maker) = maker p.of.0
+property_made absent p None = absent p.of.0
+
 -- each property in turn, from the record's fields. Fields that are no property are dropped
-abbrev pub properties_made : Table → List Property → Fields → Outcome (Members (Unit {0}))
-properties_made table [] fields = Ok no_members
-properties_made table (p ∷ ps) fields =
-    entry_made p.name (under p.name (property_made table p (field_at p.name fields))) (properties_made table ps fields)
+abbrev pub properties_made : Maker → List Property → Fields → Outcome (Members (Unit {0}))
+properties_made absent [] fields = Ok no_members
+properties_made absent (p ∷ ps) fields =
+    entry_made p.name (under p.name (property_made absent p (field_at p.name fields))) (properties_made absent ps fields)
 
--- the record with those entries
-abbrev pub record_made : Outcome (Members (Unit {0})) → Outcome Value
-record_made (Ok made) = Ok (dict tt made)
-record_made (Err e) = Err e
+-- the list with those items, the record with those entries
+abbrev pub list_of : Outcome (Parts (Unit {0})) → Outcome Value
+list_of (Ok made) = Ok (list tt made)
+list_of (Err e) = Err e
 
--- what each shape takes of texts, integers, booleans and records
-abbrev pub text_made : List ℕ → Option Shape → Outcome Value
-text_made s (Some Str) = Ok (text s)
-text_made s _ = mistyped
+abbrev pub record_of : Outcome (Members (Unit {0})) → Outcome Value
+record_of (Ok made) = Ok (dict tt made)
+record_of (Err e) = Err e
 
-abbrev pub integer_made : Tree (Unit {0}) → Option Shape → Outcome Value
-integer_made z (Some Integer) = Ok z
-integer_made z _ = mistyped
+-- a list is made by an array's type, item by item, or kept as it is by a frozen type
+abbrev pub list_made : Value → List Maker → Option Shape → Outcome Value
+list_made v items (Some (Array u)) = list_of (items_made 0 u.0 items)
+list_made v items (Some Frozen) = Ok v
+list_made v items _ = mistyped
 
-abbrev pub boolean_made : Bool → Option Shape → Outcome Value
-boolean_made b (Some Boolean) = Ok (boolean b)
-boolean_made b _ = mistyped
-
-abbrev pub dict_made : Table → Fields → Option Shape → Outcome Value
-dict_made table fields (Some (Model m)) = record_made (properties_made table (properties_of table m.0) fields)
-dict_made table fields _ = mistyped
+-- a record is made by a map's type, value by value, by a model, property by property, or kept as it is by a frozen type
+abbrev pub dict_made : Table → Maker → Value → Fields → Option Shape → Outcome Value
+dict_made table absent v fields (Some (Map u)) = record_of (entries_made u.0 fields)
+dict_made table absent v fields (Some (Model m)) = record_of (properties_made absent (properties_of table m.0) fields)
+dict_made table absent v fields (Some Frozen) = Ok v
+dict_made table absent v fields _ = mistyped
 
 abbrev mutual
   -- what each type makes of a value
-  pub maker_of : Table → Value → Maker
-  maker_of table null t = mistyped
-  maker_of table (boolean b) t = boolean_made b (shape_at table t)
-  maker_of table (integer z) t = integer_made (integer z) (shape_at table t)
-  maker_of table (text s) t = text_made s (shape_at table t)
-  maker_of table (list a ps) t = mistyped
-  maker_of table (dict a ms) t = dict_made table (fields_of table ms) (shape_at table t)
+  pub maker_of : Table → List (Option Snap) → Value → Maker
+  maker_of table defaults null t = scalar_made table null (judged_by table null t)
+  maker_of table defaults (boolean b) t = scalar_made table (boolean b) (judged_by table (boolean b) t)
+  maker_of table defaults (integer z) t = scalar_made table (integer z) (judged_by table (integer z) t)
+  maker_of table defaults (text s) t = scalar_made table (text s) (judged_by table (text s) t)
+  maker_of table defaults (list a ps) t = list_made (list a ps) (makers_of table defaults ps) (judged_by table (list a ps) t)
+  maker_of table defaults (dict a ms) t =
+      dict_made table (absent table defaults) (dict a ms) (fields_of table defaults ms) (judged_by table (dict a ms) t)
+
+  -- the items of a list
+  pub makers_of : Table → List (Option Snap) → Parts (Unit {0}) → List Maker
+  makers_of table defaults no_parts = []
+  makers_of table defaults (part v ps) = maker_of table defaults v ∷ makers_of table defaults ps
 
   -- the fields of a record
-  pub fields_of : Table → Members (Unit {0}) → Fields
-  fields_of table no_members = []
-  fields_of table (member k v ms) = (k, maker_of table v) ∷ fields_of table ms
+  pub fields_of : Table → List (Option Snap) → Members (Unit {0}) → Fields
+  fields_of table defaults no_members = []
+  fields_of table defaults (member k v ms) = (k, maker_of table defaults v) ∷ fields_of table defaults ms
 
 -- a type's outcome for a value or none, its limits aside
-abbrev pub made_by : Table → ℕ → Option Value → Outcome Value
-made_by table t None = absent table t
-made_by table t (Some v) = maker_of table v t
+abbrev pub made_by : Table → List (Option Snap) → ℕ → Option Value → Outcome Value
+made_by table defaults t None = absent table defaults t
+made_by table defaults t (Some v) = maker_of table defaults v t
 
 -- within the limits of what is made: a weight of 1,048,576 and a depth of 64
 abbrev pub is_within : Value → Bool
@@ -111,8 +182,8 @@ is_within v = nat_le (weight_of v) 1048576 && nat_le (depth_of v) 64
 -- what is beyond the limits is refused as a whole, after everything else
 abbrev pub limited : Outcome Value → Outcome Value
 limited (Err e) = Err e
-limited (Ok v) = if is_within v then Ok v else Err (record { path = []; rule = Large })
+limited (Ok v) = if is_within v then Ok v else refused Large
 
 -- what making comes to
-abbrev pub making : Table → ℕ → Option Value → Outcome Value
-making table t given = limited (made_by table t given)
+abbrev pub making : Catalog → ℕ → Option Value → Outcome Value
+making types t given = limited (made_by types.table types.defaults t given)

@@ -1,19 +1,28 @@
 -- The types of a schema, as a table by numbers.
-use Rattle.std.specs.Prelude.{◌≡◌, ℕ, ◌<◌, List, [], ◌∷◌, length, map, slice_get, Option, Some, IfSome, All}
+use Rattle.std.specs.Prelude.{◌≡◌, ℕ, ◌<◌, List, [], ◌∷◌, length, map, slice_get, Option, Some, None, IfSome, All}
 use Rattle.std.specs.declared.cmp.Ordering.TheVariants.{Less}
 use Rattle.std.specs.Ordering.{nat_cmp}
 use Rattle.std.specs.Cmp.Lexicographic.{slice_cmp}
 use Rattle.snap_core.specs.declared.number.ModelNo.{ModelNo}
+use Rattle.snap_core.specs.declared.number.TypeNo.{TypeNo}
+use Rattle.snap_core.specs.declared.snap.Snap.{Snap}
+use Rattle.snap_core.specs.Value.{Value, IsPlain}
+use Rattle.snap_core.specs.View.{view}
 use Rattle.type_core.specs.declared.shape.Shape.{Shape}
-use Rattle.type_core.specs.declared.shape.Shape.TheVariants.{Str, Integer, Boolean, Model}
+use Rattle.type_core.specs.declared.shape.Shape.TheVariants.{Literal, Optional, Maybe, MaybeNull, Union, Refinement, Array, Map, Model, Named}
 use Rattle.type_core.specs.declared.shape.Property.{Property}
 use Rattle.type_core.specs.declared.shape.ModelType.{ModelType}
 
--- the types by their numbers, the models by theirs, and the model that documents are of
+-- types by their numbers, and models by theirs
 pub record Table : Type 0 where
   pub shapes : List Shape
   pub models : List ModelType
+
+-- the types of a schema: the table, the model that documents are of, and what each optional type makes where no value is given
+pub record Catalog : Type 0 where
+  pub table : Table
   pub root : ModelNo
+  pub defaults : List (Option Snap)
 
 -- a table that is being made, in which some types have no shape yet
 pub record Plan : Type 0 where
@@ -23,43 +32,6 @@ pub record Plan : Type 0 where
 -- a finished table as a plan
 abbrev pub plan_of : Table → Plan
 plan_of t = record { shapes = map Some t.shapes; models = t.models }
-
--- the model that a shape names is one of these
-abbrev pub NamesModel : List ModelType → Shape → Type 0
-NamesModel models Str = Unit {0}
-NamesModel models Integer = Unit {0}
-NamesModel models Boolean = Unit {0}
-NamesModel models (Model m) = m.0 < length models
-
--- the name comes before those of the properties, by bytes
-abbrev pub ComesBefore : List ℕ → List Property → Type 0
-ComesBefore name [] = Unit {0}
-ComesBefore name (p ∷ ps) = slice_cmp nat_cmp name p.name ≡ Less
-
--- the names stand in strictly ascending order
-abbrev pub AreNamed : List Property → Type 0
-AreNamed [] = Unit {0}
-AreNamed (p ∷ ps) = ComesBefore p.name ps × AreNamed ps
-
--- the types of the properties are among the first so many
-abbrev pub AreTyped : ℕ → List Property → Type 0
-AreTyped count properties = All (λ (p : Property). p.of.0 < count) properties
-
--- a model of the plan under its number
-pub record IsModelOf (plan : Plan) (number : ℕ) (model : ModelType) : Type 0 where
-  pub named : AreNamed model.properties
-  pub typed : AreTyped (length plan.shapes) model.properties
-  pub own : slice_get plan.shapes model.own.0 ≡ Some (Some (Model (record { 0 = number })))
-
--- each shape names a model of the plan, and each model is one under its number
-pub record IsBegun (plan : Plan) : Type 0 where
-  pub shapes : All (λ shape. IfSome shape (NamesModel plan.models)) plan.shapes
-  pub models : (number : ℕ) (model : ModelType) → slice_get plan.models number ≡ Some model → IsModelOf plan number model
-
--- such a table, whose root is one of its models
-pub record IsSound (table : Table) : Type 0 where
-  pub begun : IsBegun (plan_of table)
-  pub root : table.root.0 < length table.models
 
 -- the shape of a type
 abbrev pub shape_at : Table → ℕ → Option Shape
@@ -71,3 +43,73 @@ properties_of table m = properties_in (slice_get table.models m) where
   properties_in : Option ModelType → List Property
   properties_in (Some model) = model.properties
   properties_in _ = []
+
+-- what the optional type of this number makes where no value is given, if it is known
+abbrev pub default_at : List (Option Snap) → ℕ → Option Value
+default_at defaults t = known (slice_get defaults t) where
+  known : Option (Option Snap) → Option Value
+  known (Some (Some s)) = Some (view s)
+  known _ = None
+
+-- the types that a shape leads on to with no list, record or model between
+abbrev pub leads_of : Shape → List TypeNo
+leads_of (Named u) = u ∷ []
+leads_of (Optional u d) = u ∷ []
+leads_of (Maybe u) = u ∷ []
+leads_of (MaybeNull u) = u ∷ []
+leads_of (Refinement u cs) = u ∷ []
+leads_of (Union ms) = ms
+leads_of _ = []
+
+-- the types of a list's items or of a record's values
+abbrev pub parts_of : Shape → List TypeNo
+parts_of (Array u) = u ∷ []
+parts_of (Map u) = u ∷ []
+parts_of _ = []
+
+-- the model that a shape names is one of these
+abbrev pub NamesModel : List ModelType → Shape → Type 0
+NamesModel models (Model m) = m.0 < length models
+NamesModel models _ = Unit {0}
+
+-- the numbers of the types that a shape names are below a bound
+pub record NamesTypes (count : ℕ) (shape : Shape) : Type 0 where
+  pub leads : All (λ (t : TypeNo). t.0 < count) (leads_of shape)
+  pub parts : All (λ (t : TypeNo). t.0 < count) (parts_of shape)
+
+-- literals and defaults are plain
+abbrev pub HoldsPlain : Shape → Type 0
+HoldsPlain (Literal l) = IsPlain (view l)
+HoldsPlain (Optional u d) = IsPlain (view d)
+HoldsPlain _ = Unit {0}
+
+-- the name comes before those of the properties, by bytes
+abbrev pub ComesBefore : List ℕ → List Property → Type 0
+ComesBefore name [] = Unit {0}
+ComesBefore name (p ∷ ps) = slice_cmp nat_cmp name p.name ≡ Less
+
+-- the names stand in strictly ascending order
+abbrev pub AreNamed : List Property → Type 0
+AreNamed [] = Unit {0}
+AreNamed (p ∷ ps) = ComesBefore p.name ps × AreNamed ps
+
+-- the numbers of the properties' types are below a bound
+abbrev pub AreTyped : ℕ → List Property → Type 0
+AreTyped count properties = All (λ (p : Property). p.of.0 < count) properties
+
+-- a model of the plan under its number
+pub record IsModelOf (plan : Plan) (number : ℕ) (model : ModelType) : Type 0 where
+  pub named : AreNamed model.properties
+  pub typed : AreTyped (length plan.shapes) model.properties
+  pub own : slice_get plan.shapes model.own.0 ≡ Some (Some (Model (record { 0 = number })))
+
+-- a shape of the plan
+pub record IsShapeOf (plan : Plan) (shape : Shape) : Type 0 where
+  pub model : NamesModel plan.models shape
+  pub types : NamesTypes (length plan.shapes) shape
+  pub plain : HoldsPlain shape
+
+-- the shapes and the models name what is in the plan
+pub record IsBegun (plan : Plan) : Type 0 where
+  pub shapes : All (λ shape. IfSome shape (IsShapeOf plan)) plan.shapes
+  pub models : (number : ℕ) (model : ModelType) → slice_get plan.models number ≡ Some model → IsModelOf plan number model

@@ -1,8 +1,19 @@
-ghost use Rattle.std.specs.Prelude.{◌≡◌, ◌≢◌, ◌<◌, [], ◌∷◌, ◌++◌, length, map, slice_get, slice_set, Some, None, All, IsSome, IfOk, OnOk, OnErr, option_map};
-ghost use Rattle.type_core.specs.Table.{AreNamed, AreTyped, NamesModel, IsSound, plan_of, shape_at, properties_of};
+//! The types of a schema while they are put together.
+ghost use Rattle.std.specs.Prelude.{◌≡◌, ◌<◌, [], ◌∷◌, ◌++◌, ℕ, length, map, slice_get, slice_set, Some, None, All, IsSome, IfOk, OnOk, OnErr, vec_len};
+ghost use Rattle.type_core.specs.Table.{AreNamed, AreTyped, IsShapeOf, IsBegun, plan_of};
+ghost use Rattle.type_core.specs.Table as specs;
+ghost use Rattle.type_core.specs.Faults.{HasFault, IsFirstFault, IfWrong};
+ghost use Rattle.pointer_core.specs.declared.schema_rule.SchemaRule.{SchemaRule as Rule};
 
+use crate::defaults::defaults_of;
+use crate::faults::{check_types, missing_default};
+use crate::rule::DraftError;
 use crate::shape::{ModelType, Properties, Shape};
+use crate::table::Table;
+use crate::tagged::Tagged;
+use crate::types::Types;
 use list_core::Parts;
+use pointer_core::SchemaRule;
 use snap_core::{ModelNo, Name, TypeNo};
 use std::alloc::{AllocError, Global};
 use std::marker::Model;
@@ -11,36 +22,22 @@ use std::marker::Model;
 #[derive(Debug, Drop)]
 pub struct Draft {
     alloc: Global,
-    shapes: Parts<Option<Shape>>,
+    shapes: Vec<Option<Shape>>,
     models: Parts<ModelType>,
 }
 
 impl Model for Draft {
     ghost use Rattle.type_core.specs.Table.{Plan, IsBegun};
+    ghost use Rattle.std.specs.Coded.{codes};
+    ghost use Rattle.snap_core.specs.contracts.snap.Snap as snap;
 
     ghost Value = { Plan };
 
-    ghost view = { λ d. record { shapes = d.shapes; models = d.models } };
+    ghost coded = { Prim.hlevel (codes, snap.the_row.coded) };
 
-    ghost invariant = { λ d. IsBegun (record { shapes = d.shapes; models = d.models }) };
-}
+    ghost view = { λ d. record { shapes = d.shapes.items; models = d.models } };
 
-/// The types of a schema. Contracts see a `Table`.
-#[derive(Debug, Drop)]
-pub struct Types {
-    shapes: Parts<Shape>,
-    models: Parts<ModelType>,
-    root: ModelNo,
-}
-
-impl Model for Types {
-    ghost use Rattle.type_core.specs.Table.{Table, IsSound};
-
-    ghost Value = { Table };
-
-    ghost view = { λ t. record { shapes = t.shapes; models = t.models; root = t.root } };
-
-    ghost invariant = { λ t. IsSound (record { shapes = t.shapes; models = t.models; root = t.root }) };
+    ghost invariant = { λ d. IsBegun (record { shapes = d.shapes.items; models = d.models }) };
 }
 
 impl Draft {
@@ -50,7 +47,7 @@ impl Draft {
     {
         Draft {
             alloc,
-            shapes: Parts::new(alloc),
+            shapes: Vec::new(alloc),
             models: Parts::new(alloc),
         }
     }
@@ -70,7 +67,6 @@ impl Draft {
     pub fn model(&mut self, name: Name, properties: Properties) -> Result<ModelNo, AllocError>
         requires named { AreNamed properties }
         requires typed { AreTyped (length self.old.shapes) properties }
-        requires unique { All (λ model. model.name ≢ name) self.old.models }
         ensures number { IfOk result (λ m. m.0 ≡ length self.old.models) }
         ensures models { let own : TypeNo = record { 0 = length self.old.shapes } in
             OnOk result (self.new.models ≡ self.old.models ++ record { name = name; properties = properties; own = own } ∷ []) }
@@ -94,37 +90,50 @@ impl Draft {
     /// Gives a type its shape.
     pub fn define(&mut self, t: TypeNo, shape: Shape)
         requires undefined { slice_get self.old.shapes t.0 ≡ Some None }
-        requires names { NamesModel self.old.models shape }
+        requires names { IsShapeOf self.old shape }
         ensures { self.new ≡ record self.old { shapes = slice_set self.old.shapes t.0 (Some shape) } }
     {
-        self.shapes.set(t.0, Some(shape));
+        set_shape(&mut self.shapes, t, shape);
     }
 
-    /// The finished types. `root` is the model that documents are of.
-    pub fn finish(self, root: ModelNo) -> Result<Types, AllocError>
+    /// The finished types, or the first fault. `root` is the model that documents are of.
+    ///
+    /// Faults are looked for in two passes over the types by their numbers: types that lead back to
+    /// themselves and unions, then defaults.
+    pub fn finish(self, root: ModelNo) -> Result<Types, DraftError>
         requires root { root.0 < length self.models }
         requires defined { All IsSome self.shapes }
-        ensures plan { IfOk result (λ types. plan_of types ≡ self) }
+        ensures plan { IfOk result (λ types. plan_of types.table ≡ self) }
         ensures root { IfOk result (λ types. types.root ≡ root) }
+        ensures faultless { IfOk result (λ types. (t : ℕ) (rule : Rule) → ¬ (HasFault types.table t rule)) }
+        ensures wrong { IfWrong result (λ t rule. (table : specs.Table) → plan_of table ≡ self → IsFirstFault table t.0 rule) }
     {
-        let shapes = defined_shapes(self.alloc, self.shapes.as_slice())?;
-        Ok(Types {
+        let Draft {
+            alloc,
             shapes,
-            models: self.models,
-            root,
-        })
+            models,
+        } = self;
+        let shapes = defined_shapes(alloc, shapes)?;
+        finished(alloc, Table { shapes, models }, root)
     }
+}
+
+fn set_shape(shapes: &mut Vec<Option<Shape>>, t: TypeNo, shape: Shape)
+    requires { t.0 < vec_len shapes.old }
+    ensures { shapes.new.items ≡ slice_set shapes.old.items t.0 (Some shape) }
+{
+    shapes[t.0] = Some(shape);
 }
 
 /// Adds a model, and its shape as the next type: both or neither.
 fn add_model(
-    shapes: &mut Parts<Option<Shape>>,
+    shapes: &mut Vec<Option<Shape>>,
     models: &mut Parts<ModelType>,
     model: ModelType,
 ) -> Result<(), AllocError>
     ensures ok { let m : ModelNo = record { 0 = length models.old } in
-        OnOk result ((shapes.new ≡ shapes.old ++ Some (Shape.Model m) ∷ []) × (models.new ≡ models.old ++ model ∷ [])) }
-    ensures err { OnErr result ((shapes.new ≡ shapes.old) × (models.new ≡ models.old)) }
+        OnOk result ((shapes.new.items ≡ shapes.old.items ++ Some (Shape.Model m) ∷ []) × (models.new ≡ models.old ++ model ∷ [])) }
+    ensures err { OnErr result ((shapes.new.items ≡ shapes.old.items) × (models.new ≡ models.old)) }
 {
     let number = ModelNo(models.len());
     shapes.push(Some(Shape::Model(number)))?;
@@ -137,59 +146,45 @@ fn add_model(
     }
 }
 
-fn defined_shapes(alloc: Global, shapes: &[Option<Shape>]) -> Result<Parts<Shape>, AllocError>
-    requires { All IsSome shapes.now }
-    ensures { IfOk result (λ defined. map Some defined ≡ shapes.now) }
+/// The shapes, each of which is defined.
+fn defined_shapes(alloc: Global, shapes: Vec<Option<Shape>>) -> Result<Parts<Shape>, AllocError>
+    requires { All IsSome shapes.items }
+    ensures { IfOk result (λ defined. map Some defined ≡ shapes.items) }
 {
     let mut defined = Parts::new(alloc);
     for shape in shapes {
-        if let Some(shape) = shape {
-            defined.push(*shape)?;
-        }
+        push_defined(&mut defined, shape)?;
     }
     Ok(defined)
 }
 
-impl Types {
-    /// The model that documents are of.
-    pub fn root(&self) -> ModelNo
-        ensures root { result ≡ self.now.root }
-        ensures sound { IsSound self.now }
-    {
-        self.root
+fn push_defined(defined: &mut Parts<Shape>, shape: Option<Shape>) -> Result<(), AllocError>
+    requires { IsSome shape }
+    ensures { OnOk result (map Some defined.new ≡ map Some defined.old ++ shape ∷ []) }
+{
+    match shape {
+        Some(shape) => defined.push(shape),
+        None => Ok(()),
     }
+}
 
-    pub fn name(&self, m: ModelNo) -> &Name
-        requires { m.0 < length self.now.models }
-        ensures { option_map (λ model. model.name) (slice_get self.now.models m.0) ≡ Some result.now }
-    {
-        &self.models.as_slice()[m.0].name
-    }
-
-    pub fn properties(&self, m: ModelNo) -> &Properties
-        requires { m.0 < length self.now.models }
-        ensures properties { properties_of self.now m.0 ≡ result.now }
-        ensures named { AreNamed result.now }
-        ensures typed { AreTyped (length self.now.shapes) result.now }
-    {
-        &self.models.as_slice()[m.0].properties
-    }
-
-    /// The type that is the model.
-    pub fn model_type(&self, m: ModelNo) -> TypeNo
-        requires { m.0 < length self.now.models }
-        ensures model { shape_at self.now result.0 ≡ Some (Shape.Model m) }
-        ensures known { result.0 < length self.now.shapes }
-    {
-        self.models.as_slice()[m.0].own
-    }
-
-    pub fn shape(&self, t: TypeNo) -> Shape
-        requires { t.0 < length self.now.shapes }
-        ensures shape { shape_at self.now t.0 ≡ Some result }
-        ensures names { NamesModel self.now.models result }
-        ensures sound { IsSound self.now }
-    {
-        self.shapes.as_slice()[t.0]
+/// The types of a table without a fault, or its first fault.
+fn finished(alloc: Global, table: Table, root: ModelNo) -> Result<Types, DraftError>
+    requires begun { IsBegun (plan_of table) }
+    requires root { root.0 < length table.models }
+    ensures table { IfOk result (λ types. types.table ≡ table) }
+    ensures root { IfOk result (λ types. types.root ≡ root) }
+    ensures faultless { IfOk result (λ types. (t : ℕ) (rule : Rule) → ¬ (HasFault types.table t rule)) }
+    ensures wrong { IfWrong result (λ t rule. IsFirstFault table t.0 rule) }
+{
+    check_types(alloc, &table)?;
+    let tagged = Tagged::new(alloc, table)?;
+    let defaults = defaults_of(alloc, &tagged)?;
+    match missing_default(tagged.table(), defaults.as_slice()) {
+        Some(t) => Err(DraftError::Wrong {
+            t,
+            rule: SchemaRule::Default,
+        }),
+        None => Ok(Types::of(tagged, root, defaults)),
     }
 }

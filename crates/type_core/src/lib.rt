@@ -1,12 +1,27 @@
 //! The types of a schema, and making: what a type makes of a value that comes from outside.
 #![tactic(auto)]
 
+mod apart;
+mod defaults;
 mod draft;
+mod faults;
+mod judging;
+mod leads;
 mod making;
+mod records;
+mod rule;
+mod scalars;
 mod shape;
+mod table;
+mod tagged;
+mod tags;
 #[cfg(test)]
 mod tests;
+mod types;
+mod unions;
 
-pub use draft::{Draft, Types};
+pub use draft::Draft;
 pub use making::{MakeError, make};
-pub use shape::{ModelType, Properties, Property, Shape};
+pub use rule::DraftError;
+pub use shape::{Condition, Conditions, Members, ModelType, Properties, Property, Shape, Texts};
+pub use types::{Types, chosen};

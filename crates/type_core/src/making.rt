@@ -1,18 +1,25 @@
-ghost use Rattle.std.specs.Prelude.{◌≡◌, ◌<◌, [], ◌∷◌, ◌++◌, length, Option, Some, None, Ok, MatchOption, IfSome, IfOk, MatchResult, OnOk, slice_get};
-ghost use Rattle.std.specs.List.{HoldsAt};
-ghost use Rattle.snap_core.specs.Value.{Value, AreAscending, IsPlain, integer};
-ghost use Rattle.snap_core.specs.View.{view, entry, fields_view};
-ghost use Rattle.type_core.specs.Table.{AreTyped, IsSound, NamesModel};
-ghost use Rattle.type_core.specs.Making.{Outcome, under, text_made, integer_made, boolean_made, dict_made, maker_of, fields_of, properties_made, property_made, field_at, limited, making};
-ghost use Rattle.type_core.specs.Makes.{MakesWithin, value_at};
+//! Making: what a type makes of a value that comes from outside, or of none.
+ghost use Rattle.std.specs.Prelude.{◌≡◌, [], ◌∷◌, Option, Some, None, Ok, IfSome, IfOk, MatchResult};
+ghost use Rattle.std.specs.Option.{option_copied};
+ghost use Rattle.std.specs.List.{list_all};
+ghost use Rattle.std.specs.Fmt.{char_count};
+ghost use Rattle.snap_core.specs.Value.{Value, IsPlain, ArePlain, AreAscending};
+ghost use Rattle.snap_core.specs.View.{view, items_view, fields_view};
+ghost use Rattle.type_core.specs.Making as specs;
+ghost use Rattle.type_core.specs.Making.{maker_of, making};
+ghost use Rattle.type_core.specs.Makes.{MakesWithin};
 ghost use Rattle.type_core.specs.Made.{Answers, IfRefused, value_of, refused_as};
+ghost use Rattle.type_core.specs.Sound.{IsSound};
 ghost use Rattle.type_core.specs.declared.making.MakeError.TheVariants.{Memory};
 
-use crate::draft::Types;
-use crate::shape::{Property, Shape};
-use list_core::Parts;
+use crate::judging::judged;
+use crate::records::{make_absent, make_entries, make_items, make_properties};
+use crate::scalars::takes;
+use crate::shape::{Condition, Shape};
+use crate::tagged::Tagged;
+use crate::types::Types;
 use pointer_core::{Pointer, Refusal, Rule};
-use snap_core::{Field, Fields, Name, Snap, Txt, TypeNo};
+use snap_core::{Field, Snap, TypeNo};
 use std::alloc::{AllocError, Global};
 use thiserror::Error;
 
@@ -27,7 +34,7 @@ const MAX_DEPTH: u64 = 64;
 pub enum MakeError {
     #[error("out of memory")]
     Memory,
-    /// The first rule that isn't met, in document order, and the place in the given value.
+    /// The first rule that isn't met, in document order, and the place where, from the given value's root.
     #[error("the type doesn't take the value")]
     Refused(Refusal),
 }
@@ -47,25 +54,39 @@ pub fn make(
     t: TypeNo,
     given: Option<&Snap>,
 ) -> Result<Snap, MakeError>
-    requires known { t.0 < length types.now.shapes }
     requires plain { IfSome given (λ s. IsPlain (view s.now)) }
     ensures made { IfOk result (λ s. making types.now t.0 (value_of given.entry) ≡ Ok (view s)) }
     ensures refused { IfRefused result (λ r. making types.now t.0 (value_of given.entry) ≡ Err (refused_as r)) }
-    ensures table { IfOk result (λ s. MakesWithin types.now t.0 (value_of given.entry) (view s)) }
-    ensures only { (s : Value) → MakesWithin types.now t.0 (value_of given.entry) s
+    ensures table { IfOk result (λ s. MakesWithin types.now.table t.0 (value_of given.entry) (view s)) }
+    ensures only { (s : Value) → MakesWithin types.now.table t.0 (value_of given.entry) s
         → MatchResult result (λ made. view made ≡ s) (λ e. e ≡ MakeError.Memory) }
     ensures again { IfOk result (λ s. making types.now t.0 (Some (view s)) ≡ Ok (view s)) }
     ensures plain { IfOk result (λ s. IsPlain (view s)) }
 {
-    let Some(value) = given else {
-        return Err(mistyped(alloc));
-    };
-    let made = make_value(alloc, types, t, value)?;
+    let made = make_any(alloc, types, t, given)?;
     limited(alloc, made)
 }
 
+/// The same, limits aside.
+fn make_any(
+    alloc: Global,
+    types: &Types,
+    t: TypeNo,
+    given: Option<&Snap>,
+) -> Result<Snap, MakeError>
+    requires plain { IfSome given (λ s. IsPlain (view s.now)) }
+    ensures made { Answers view result (specs.made_by types.now.table types.now.defaults t.0 (value_of given.entry)) }
+    ensures sound { IsSound types.now }
+{
+    let (tagged, defaults) = types.inside();
+    match given {
+        Some(value) => make_value(alloc, tagged, defaults, t, value),
+        None => make_absent(alloc, tagged, defaults, t),
+    }
+}
+
 fn limited(alloc: Global, made: Snap) -> Result<Snap, MakeError>
-    ensures { Answers view result (limited (Ok (view made))) }
+    ensures { Answers view result (specs.limited (Ok (view made))) }
 {
     if made.weight(MAX_WEIGHT + 1) > MAX_WEIGHT || made.depth(MAX_DEPTH + 1) > MAX_DEPTH {
         return Err(refused(alloc, Rule::Large));
@@ -73,7 +94,8 @@ fn limited(alloc: Global, made: Snap) -> Result<Snap, MakeError>
     Ok(made)
 }
 
-fn refused(alloc: Global, rule: Rule) -> MakeError
+/// A refusal at the place itself.
+pub fn refused(alloc: Global, rule: Rule) -> MakeError
     ensures { result ≡ MakeError.Refused (record { path = []; rule = rule }) }
 {
     MakeError::Refused(Refusal {
@@ -82,155 +104,128 @@ fn refused(alloc: Global, rule: Rule) -> MakeError
     })
 }
 
-fn mistyped(alloc: Global) -> MakeError
-    ensures { result ≡ MakeError.Refused (record { path = []; rule = Rule.Mistyped }) }
-{
-    refused(alloc, Rule::Mistyped)
-}
-
+/// What a type makes of a value, limits aside.
 #[cycle(making)]
-fn make_value(alloc: Global, types: &Types, t: TypeNo, given: &Snap) -> Result<Snap, MakeError>
-    requires known { t.0 < length types.now.shapes }
+pub fn make_value(
+    alloc: Global,
+    types: &Tagged,
+    defaults: &[Option<Snap>],
+    t: TypeNo,
+    given: &Snap,
+) -> Result<Snap, MakeError>
     requires plain { IsPlain (view given.now) }
-    ensures made { Answers view result (maker_of types.now (view given.now) t.0) }
-    ensures sound { IsSound types.now }
+    ensures made { Answers view result (maker_of types.now defaults.now (view given.now) t.0) }
 {
-    let shape = types.shape(t);
+    let shape = judged(types, given, t);
     match given {
-        Snap::Bool(b) => make_boolean(alloc, *b, shape),
-        Snap::Int(n) => make_integer(alloc, *n, shape),
-        Snap::Text(text) => make_text(alloc, text, shape),
-        Snap::Dict(fields) => make_record(alloc, types, fields.as_slice(), shape),
-        Snap::Null | Snap::List(_) => Err(mistyped(alloc)),
+        Snap::List(items) => make_list(alloc, types, defaults, items.as_slice(), shape, given),
+        Snap::Dict(fields) => make_dict(alloc, types, defaults, fields.as_slice(), shape, given),
+        _ => make_scalar(alloc, types, given, shape),
     }
 }
 
-fn make_boolean(alloc: Global, b: bool, shape: Shape) -> Result<Snap, MakeError>
-    ensures { Answers view result (boolean_made b (Some shape)) }
-{
-    match shape {
-        Shape::Boolean => Ok(Snap::Bool(b)),
-        _ => Err(mistyped(alloc)),
-    }
-}
-
-fn make_integer(alloc: Global, n: i64, shape: Shape) -> Result<Snap, MakeError>
-    ensures { Answers view result (integer_made (integer n) (Some shape)) }
-{
-    match shape {
-        Shape::Integer => Ok(Snap::Int(n)),
-        _ => Err(mistyped(alloc)),
-    }
-}
-
-fn make_text(alloc: Global, text: &Txt, shape: Shape) -> Result<Snap, MakeError>
-    ensures { Answers view result (text_made text.now (Some shape)) }
-{
-    match shape {
-        Shape::Str => Ok(Snap::Text(text.clone_in(alloc)?)),
-        _ => Err(mistyped(alloc)),
-    }
-}
-
-#[cycle(making)]
-fn make_record(
+fn make_scalar(
     alloc: Global,
-    types: &Types,
-    fields: &[Field],
-    shape: Shape,
+    types: &Tagged,
+    given: &Snap,
+    shape: Option<&Shape>,
 ) -> Result<Snap, MakeError>
-    requires named { NamesModel types.now.models shape }
-    requires plain { AreAscending (fields_view fields.now) }
-    ensures { let given = fields_of types.now (fields_view fields.now) in
-        Answers view result (dict_made types.now given (Some shape)) }
+    ensures { Answers view result (specs.scalar_made types.now (view given.now) (option_copied shape.entry)) }
+{
+    if !takes(types.table(), shape, given) {
+        return Err(refused(alloc, Rule::Mistyped));
+    }
+    if !admit(shape, given) {
+        return Err(refused(alloc, Rule::Refine));
+    }
+    Ok(given.clone_in(alloc)?)
+}
+
+/// Whether the conditions of a refinement admit a value. Other shapes have none.
+fn admit(shape: Option<&Shape>, given: &Snap) -> bool
+    ensures { result ≡ list_all (specs.admits (view given.now)) (specs.conditions_of (option_copied shape.entry)) }
 {
     match shape {
-        Shape::Model(m) => {
-            let properties = types.properties(m).as_slice();
-            Ok(Snap::Dict(make_properties(alloc, types, fields, properties)?))
+        Some(Shape::Refinement(_, conditions)) => {
+            conditions.as_slice().iter().all(|c| admits(given, c))
         }
-        _ => Err(mistyped(alloc)),
+        _ => true,
     }
 }
 
-#[cycle(making)]
-fn make_properties(
-    alloc: Global,
-    types: &Types,
-    fields: &[Field],
-    properties: &[Property],
-) -> Result<Fields, MakeError>
-    requires typed { AreTyped (length types.now.shapes) properties.now }
-    requires plain { AreAscending (fields_view fields.now) }
-    ensures { let given = fields_of types.now (fields_view fields.now) in
-        Answers fields_view result (properties_made types.now properties.now given) }
+fn admits(given: &Snap, condition: &Condition) -> bool
+    ensures { result ≡ specs.admits (view given.now) condition.now }
 {
-    let mut made = Parts::new(alloc);
-    for property in properties {
-        let value = make_property(alloc, types, fields, property);
-        let value = under(alloc, &property.name, value)?;
-        push_entry(alloc, &mut made, &property.name, value)?;
+    match (given, condition) {
+        (Snap::Int(n), Condition::Min(least)) => n >= least,
+        (Snap::Int(n), Condition::Max(most)) => n <= most,
+        (Snap::Text(text), Condition::MinLength(least)) => {
+            count_chars(text.text()) as i128 >= i128::from(*least)
+        }
+        (Snap::Text(text), Condition::MaxLength(most)) => {
+            count_chars(text.text()) as i128 <= i128::from(*most)
+        }
+        (Snap::Text(text), Condition::StartsWith(beginning)) => {
+            text.text()
+                .as_bytes()
+                .starts_with(beginning.text().as_bytes())
+        }
+        _ => false,
     }
-    Ok(made)
 }
 
+fn count_chars(text: &str) -> usize
+    ensures { result ≡ char_count text.now }
+{
+    text.chars().count()
+}
+
+/// A list by the shape that judges it.
 #[cycle(making)]
-fn make_property(
+fn make_list(
     alloc: Global,
-    types: &Types,
-    fields: &[Field],
-    property: &Property,
+    types: &Tagged,
+    defaults: &[Option<Snap>],
+    items: &[Snap],
+    shape: Option<&Shape>,
+    given: &Snap,
 ) -> Result<Snap, MakeError>
-    requires typed { property.now.of.0 < length types.now.shapes }
+    requires plain { ArePlain (items_view items.now) }
+    ensures { Answers view result (specs.list_made (view given.now) (specs.makers_of types.now defaults.now (items_view items.now)) (option_copied shape.entry)) }
+{
+    match shape {
+        Some(Shape::Array(of)) => {
+            Ok(Snap::List(make_items(alloc, types, defaults, *of, items)?))
+        }
+        Some(Shape::Frozen) => Ok(given.clone_in(alloc)?),
+        _ => Err(refused(alloc, Rule::Mistyped)),
+    }
+}
+
+/// A record by the shape that judges it.
+#[cycle(making)]
+fn make_dict(
+    alloc: Global,
+    types: &Tagged,
+    defaults: &[Option<Snap>],
+    fields: &[Field],
+    shape: Option<&Shape>,
+    given: &Snap,
+) -> Result<Snap, MakeError>
     requires plain { AreAscending (fields_view fields.now) }
-    ensures { let given = fields_of types.now (fields_view fields.now) in
-        Answers view result (property_made types.now property.now (field_at property.now.name given)) }
+    ensures { let absent = specs.absent types.now defaults.now in
+        let entries = specs.fields_of types.now defaults.now (fields_view fields.now) in
+        Answers view result (specs.dict_made types.now absent (view given.now) entries (option_copied shape.entry)) }
 {
-    match find(fields, property.name.text()) {
-        Some(at) => make_value(alloc, types, property.of, &fields[at].value),
-        None => Err(mistyped(alloc)),
+    match shape {
+        Some(Shape::Map(of)) => {
+            Ok(Snap::Dict(make_entries(alloc, types, defaults, *of, fields)?))
+        }
+        Some(Shape::Model(m)) => {
+            let properties = types.table().properties(*m);
+            Ok(Snap::Dict(make_properties(alloc, types, defaults, fields, properties)?))
+        }
+        Some(Shape::Frozen) => Ok(given.clone_in(alloc)?),
+        _ => Err(refused(alloc, Rule::Mistyped)),
     }
-}
-
-/// What making came to as it reads one level higher up, where `name` leads to its place.
-fn under(alloc: Global, name: &Name, made: Result<Snap, MakeError>) -> Result<Snap, MakeError>
-    ensures { (outcome : Outcome Value) → Answers view made outcome
-        → Answers view result (under name.now outcome) }
-{
-    match made {
-        Ok(value) => Ok(value),
-        Err(MakeError::Memory) => Err(MakeError::Memory),
-        Err(MakeError::Refused(refusal)) => Err(MakeError::Refused(step_down(
-            alloc, name, refusal,
-        )?)),
-    }
-}
-
-fn step_down(alloc: Global, name: &Name, mut refusal: Refusal) -> Result<Refusal, AllocError>
-    ensures { IfOk result (λ r. r ≡ record { path = name.now ∷ refusal.path; rule = refusal.rule }) }
-{
-    let token = Txt::copy(alloc, name.text())?;
-    refusal.path.push_front(token)?;
-    Ok(refusal)
-}
-
-fn push_entry(alloc: Global, made: &mut Fields, name: &Name, value: Snap) -> Result<(), AllocError>
-    ensures { OnOk result (made.new ≡ made.old ++ record { key = name.now; value = value } ∷ []) }
-{
-    let key = Txt::copy(alloc, name.text())?;
-    made.push(Field { key, value })
-}
-
-/// Where the field with this key is.
-fn find(fields: &[Field], key: &str) -> Option<usize>
-    requires { AreAscending (fields_view fields.now) }
-    ensures within { IfSome result (λ at. at < length fields.now) }
-    ensures plain { IfSome result (HoldsAt (λ field. IsPlain (view field.value)) fields.now) }
-    ensures found { let value = value_at key.now (fields_view fields.now) in
-        MatchOption result (value ≡ None)
-        (λ at. (field : Field) → slice_get fields.now at ≡ Some field → value ≡ Some (entry field).1) }
-{
-    fields
-        .binary_search_by(|field| field.key.text().cmp(key))
-        .ok()
 }

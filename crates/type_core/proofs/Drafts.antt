@@ -1,0 +1,211 @@
+-- The faults of a table, pass by pass, and a table without one.
+use Rattle.std.proofs.Common.{◌≡◌, ℕ, ◌<◌, List, length, Bool, true, false, IsTrue, Option, Some, None, refl, sym, ap, ◌∙◌, subst, inl, inr, arith}
+use Rattle.std.specs.Prelude.{◌≢◌, ◌⊎◌, MatchBool, IsSome, Result, Ok, Err}
+use Rattle.std.proofs.lemmas.Option.{slice_get_within}
+use Rattle.snap_core.specs.Value.{Value}
+use Rattle.snap_core.specs.declared.snap.Snap.{Snap}
+use Rattle.snap_core.specs.declared.number.TypeNo.{TypeNo}
+use Rattle.snap_core.specs.declared.number.ModelNo.{ModelNo}
+use Rattle.type_core.specs.declared.shape.Shape.TheVariants.{Optional, Union}
+use Rattle.pointer_core.specs.declared.schema_rule.SchemaRule.{SchemaRule}
+use Rattle.pointer_core.specs.declared.schema_rule.SchemaRule.TheVariants as rule
+use Rattle.type_core.specs.declared.rule.DraftError.{DraftError}
+use Rattle.type_core.specs.declared.rule.DraftError.TheVariants as fault
+use Rattle.type_core.specs.Table.{Table, IsBegun, plan_of, shape_at, default_at}
+use Rattle.type_core.specs.Names.{LeadsTo, named_by}
+use Rattle.type_core.specs.Unions.{are_apart}
+use Rattle.type_core.specs.Making.{absent_made, default_made, absent}
+use Rattle.type_core.specs.Makes.{Makes}
+use Rattle.type_core.specs.Faults.{HasFault, name, union, «default», pass_of, order_of, Precedes, IsFirstFault, IfWrong}
+use Rattle.type_core.specs.Sound.{AreMade, AreAll, IsSound}
+use Rattle.type_core.specs.Passes.{IsFaultless, IsFirstOf, HasDefault, IsMissing}
+use Rattle.type_core.proofs.Chains.{named_by-at}
+use Rattle.type_core.proofs.Laws.{made_by-complete}
+
+-- what each fault says
+pub at_name : (table : Table) (t : ℕ) → HasFault table t rule.Name → LeadsTo table t t
+at_name table _ (name t back) = back
+
+pub at_union : (table : Table) (t : ℕ) → HasFault table t rule.Union → (ms : List TypeNo) × (shape_at table t ≡ Some (Union ms)) × (are_apart table ms ≡ false)
+at_union table _ (union t ms shape apart) = (ms, shape, apart)
+
+pub at_default : (table : Table) (t : ℕ) → HasFault table t rule.Default
+    → (u : TypeNo) × (d : Snap) × (shape_at table t ≡ Some (Optional u d)) × ((s : Value) → ¬ (Makes table t None s))
+at_default table _ («default» t u d shape none) = (u, d, shape, none)
+
+-- a type that leads on is one of the table's
+LeadsTo-within : (table : Table) (t u : ℕ) → LeadsTo table t u → t < length table.shapes
+LeadsTo-within table _ _ (LeadsTo.at_once t shape u is c) = slice_get_within table.shapes t shape is
+LeadsTo-within table _ _ (LeadsTo.by_way t shape u w is c on) = slice_get_within table.shapes t shape is
+
+-- a fault is at one of the table's types
+HasFault-within : (table : Table) (t : ℕ) (rule : SchemaRule) → HasFault table t rule → t < length table.shapes
+HasFault-within table _ _ (name t back) = LeadsTo-within table t t back
+HasFault-within table _ _ (union t ms shape apart) = slice_get_within table.shapes t (Union ms) shape
+HasFault-within table _ _ («default» t u d shape none) = slice_get_within table.shapes t (Optional u d) shape
+
+-- a union is at fault where its members aren't told apart
+pub union_fault : (table : Table) (t : ℕ) (ms : List TypeNo) → shape_at table t ≡ Some (Union ms) → (apart : Bool) → apart ≡ are_apart table ms
+    → MatchBool apart (¬ (HasFault table t rule.Union)) (HasFault table t rule.Union)
+union_fault table t ms shape true is = λ fault.
+    let other = at_union table t fault in
+    let both : Some (Union ms) ≡ Some (Union other.0) = sym shape ∙ other.1 in
+    let same : ms ≡ other.0 = cc in
+    let apart : are_apart table ms ≡ false = rw same other.2 in
+    let no : true ≡ false = is ∙ apart in
+    cc
+union_fault table t ms shape false is = union t ms shape (sym is)
+
+-- the rules that a type can be at fault by
+fault_rule : (table : Table) (t : ℕ) (r : SchemaRule) → HasFault table t r → (r ≡ rule.Name) ⊎ (r ≡ rule.Union) ⊎ (r ≡ rule.Default)
+fault_rule table _ _ (name t back) = inl refl
+fault_rule table _ _ (union t ms shape apart) = inr (inl refl)
+fault_rule table _ _ («default» t u d shape none) = inr (inr refl)
+
+-- no type is at fault by another rule
+no_other : (table : Table) (t : ℕ) (r : SchemaRule) → r ≢ rule.Name → r ≢ rule.Union → r ≢ rule.Default → ¬ (HasFault table t r)
+no_other table t r a b c fault = go (fault_rule table t r fault) where
+  go : (r ≡ rule.Name) ⊎ (r ≡ rule.Union) ⊎ (r ≡ rule.Default) → ⊥
+  go (inl e) = a e
+  go (inr (inl e)) = b e
+  go (inr (inr e)) = c e
+
+no_shape : (table : Table) (t : ℕ) → ¬ (HasFault table t rule.Shape)
+no_shape table t = no_other table t rule.Shape (λ e. cc) (λ e. cc) (λ e. cc)
+
+no_twice : (table : Table) (t : ℕ) → ¬ (HasFault table t rule.Twice)
+no_twice table t = no_other table t rule.Twice (λ e. cc) (λ e. cc) (λ e. cc)
+
+no_history : (table : Table) (t : ℕ) → ¬ (HasFault table t rule.History)
+no_history table t = no_other table t rule.History (λ e. cc) (λ e. cc) (λ e. cc)
+
+no_target : (table : Table) (t : ℕ) → ¬ (HasFault table t rule.Target)
+no_target table t = no_other table t rule.Target (λ e. cc) (λ e. cc) (λ e. cc)
+
+-- the first pass at one type
+pub first_name : (table : Table) (t : ℕ) → LeadsTo table t t → IsFirstOf table 0 t rule.Name
+first_name table t back = record { fault = name t back; of_pass = refl; first = λ other pass lower. absurd (omega arith) }
+
+pub first_union : (table : Table) (t : ℕ) → ¬ (LeadsTo table t t) → HasFault table t rule.Union → IsFirstOf table 0 t rule.Union
+first_union table t loopless fault = record { fault = fault; of_pass = refl; first = before } where
+  before : (other : SchemaRule) → pass_of other ≡ 0 → order_of other < order_of rule.Union → ¬ (HasFault table t other)
+  before rule.Name pass lower = λ h. loopless (at_name table t h)
+  before rule.Union pass lower = absurd (omega arith)
+  before rule.Default pass lower = absurd (omega arith)
+  before rule.Shape pass lower = no_shape table t
+  before rule.Twice pass lower = no_twice table t
+  before rule.History pass lower = no_history table t
+  before rule.Target pass lower = no_target table t
+
+pub IsFaultless-type : (table : Table) (t : ℕ) → ¬ (LeadsTo table t t) → ¬ (HasFault table t rule.Union) → IsFaultless table 0 t
+IsFaultless-type table t loopless apart rule.Name pass = λ h. loopless (at_name table t h)
+IsFaultless-type table t loopless apart rule.Union pass = apart
+IsFaultless-type table t loopless apart rule.Default pass = absurd (omega arith)
+IsFaultless-type table t loopless apart rule.Shape pass = no_shape table t
+IsFaultless-type table t loopless apart rule.Twice pass = no_twice table t
+IsFaultless-type table t loopless apart rule.History pass = no_history table t
+IsFaultless-type table t loopless apart rule.Target pass = no_target table t
+
+-- what comes before a rule of the first pass at its type is of the first pass
+pass_before : (other rule : SchemaRule) → pass_of rule ≡ 0 → order_of other < order_of rule → pass_of other ≡ 0
+pass_before rule.Name other pass lower = refl
+pass_before rule.Union other pass lower = refl
+pass_before rule.Shape other pass lower = refl
+pass_before rule.Twice other pass lower = refl
+pass_before rule.History other pass lower = refl
+pass_before rule.Target other pass lower = refl
+pass_before rule.Default rule.Name pass lower = absurd (omega arith)
+pass_before rule.Default rule.Union pass lower = absurd (omega arith)
+pass_before rule.Default rule.Shape pass lower = absurd (omega arith)
+pass_before rule.Default rule.Twice pass lower = absurd (omega arith)
+pass_before rule.Default rule.History pass lower = absurd (omega arith)
+pass_before rule.Default rule.Target pass lower = absurd (omega arith)
+pass_before rule.Default rule.Default pass lower = absurd (omega arith)
+
+-- the first pass as a whole
+pub first_of_pass : (table : Table) (t : ℕ) (rule : SchemaRule) → ((k : ℕ) → k < t → IsFaultless table 0 k) → IsFirstOf table 0 t rule → IsFirstFault table t rule
+first_of_pass table t rule before h = record { fault = h.fault; first = first } where
+  first : (u : ℕ) (other : SchemaRule) → Precedes (u, other) (t, rule) → ¬ (HasFault table u other)
+  first u other (inl lower) = absurd (omega (arith, h.of_pass))
+  first u other (inr (inl earlier)) = before u earlier.1 other (earlier.0 ∙ h.of_pass)
+  first u other (inr (inr same)) =
+      let P : ℕ → Type 0 = λ n. ¬ (HasFault table n other) in
+      subst P (sym same.0) (h.first other (pass_before other rule h.of_pass same.1) same.1)
+
+pub IsFaultless-all : (table : Table) → ((k : ℕ) → k < length table.shapes → IsFaultless table 0 k) → (t : ℕ) → IsFaultless table 0 t
+IsFaultless-all table before t rule pass fault = before t (HasFault-within table t rule fault) rule pass fault
+
+-- where a default is missing, no value is made of none
+pub nothing_made : (table : Table) (defaults : List (Option Snap)) → ((t : ℕ) → ¬ (LeadsTo table t t)) → AreAll table defaults
+    → (t : ℕ) → IsMissing table defaults t → (s : Value) → ¬ (Makes table t None s)
+nothing_made table defaults loopless all t missing s makes =
+    let made : absent table defaults t ≡ Ok s = made_by-complete table defaults loopless all t None s makes in
+    let shape : shape_at table t ≡ Some (Optional missing.of missing.given) = missing.shape in
+    let self : named_by table t ≡ t = named_by-at table loopless t (Optional missing.of missing.given) shape in
+    let none : absent table defaults t ≡ default_made None =
+    ap (λ (k : ℕ). absent_made defaults k (shape_at table k)) self ∙ ap (absent_made defaults t) shape ∙ ap default_made missing.unknown in
+    cc
+
+-- a default that is known is made
+pub no_default_fault : (table : Table) (defaults : List (Option Snap)) → AreMade table defaults → (t : ℕ) → HasDefault table defaults t → ¬ (HasFault table t rule.Default)
+no_default_fault table defaults made t known fault =
+    let f = at_default table t fault in
+    go (default_at defaults t) refl (known f.0 f.1 f.2) f.3
+  where
+    go : (o : Option Value) → default_at defaults t ≡ o → IsSome (default_at defaults t) → ((s : Value) → ¬ (Makes table t None s)) → ⊥
+    go (Some s) e some none = none s (made t s e)
+    go None e some none = let no = rw e at some in cc
+
+-- the first missing default is the first fault
+pub first_missing : (table : Table) (defaults : List (Option Snap)) → ((t : ℕ) → IsFaultless table 0 t) → AreMade table defaults → AreAll table defaults
+    → (t : ℕ) → IsMissing table defaults t → ((u : ℕ) → u < t → HasDefault table defaults u) → IsFirstFault table t rule.Default
+first_missing table defaults faultless made all t missing before = record { fault = here; first = first } where
+  here : HasFault table t rule.Default
+  here = «default» t missing.of missing.given missing.shape
+      (nothing_made table defaults (λ k back. faultless k rule.Name refl (name k back)) all t missing)
+
+  first : (u : ℕ) (other : SchemaRule) → Precedes (u, other) (t, rule.Default) → ¬ (HasFault table u other)
+  first u rule.Name earlier = faultless u rule.Name refl
+  first u rule.Union earlier = faultless u rule.Union refl
+  first u rule.Shape earlier = no_shape table u
+  first u rule.Twice earlier = no_twice table u
+  first u rule.History earlier = no_history table u
+  first u rule.Target earlier = no_target table u
+  first u rule.Default (inl lower) = absurd (omega arith)
+  first u rule.Default (inr (inl earlier)) = no_default_fault table defaults made u (before u earlier.1)
+  first u rule.Default (inr (inr same)) = absurd (omega (arith, same.1))
+
+-- a table with no fault of the first pass, and each default
+pub no_fault : (table : Table) (defaults : List (Option Snap)) → ((t : ℕ) → IsFaultless table 0 t) → AreMade table defaults
+    → ((t : ℕ) → HasDefault table defaults t) → (t : ℕ) (rule : SchemaRule) → ¬ (HasFault table t rule)
+no_fault table defaults faultless made known t rule.Name = faultless t rule.Name refl
+no_fault table defaults faultless made known t rule.Union = faultless t rule.Union refl
+no_fault table defaults faultless made known t rule.Shape = no_shape table t
+no_fault table defaults faultless made known t rule.Twice = no_twice table t
+no_fault table defaults faultless made known t rule.History = no_history table t
+no_fault table defaults faultless made known t rule.Target = no_target table t
+no_fault table defaults faultless made known t rule.Default = no_default_fault table defaults made t (known t)
+
+told_apart : (table : Table) (t : ℕ) (ms : List TypeNo) → IsFaultless table 0 t → shape_at table t ≡ Some (Union ms)
+    → (b : Bool) → are_apart table ms ≡ b → IsTrue (are_apart table ms)
+told_apart table t ms faultless shape true e = e
+told_apart table t ms faultless shape false e = absurd (faultless rule.Union refl (union t ms shape e))
+
+pub IsSound-faultless : (table : Table) (root : ModelNo) (defaults : List (Option Snap)) → IsBegun (plan_of table) → root.0 < length table.models
+    → ((t : ℕ) → IsFaultless table 0 t) → AreMade table defaults → AreAll table defaults → ((t : ℕ) → HasDefault table defaults t)
+    → IsSound (record { table = table; root = root; defaults = defaults })
+IsSound-faultless table root defaults begun within faultless made all known = record {
+  begun = begun;
+  root = within;
+  loopless = λ t back. faultless t rule.Name refl (name t back);
+  apart = λ t ms shape. told_apart table t ms (faultless t) shape (are_apart table ms) refl;
+  known = known;
+  made = made;
+  all = all;
+}
+
+pub IfWrong-weaker : {T : Type 0} (r : Result T DraftError) (P Q : TypeNo → SchemaRule → Type 0) → ((t : TypeNo) (rule : SchemaRule) → P t rule → Q t rule)
+    → IfWrong r P → IfWrong r Q
+IfWrong-weaker (Ok x) P Q f h = tt
+IfWrong-weaker (Err (fault.Wrong t rule)) P Q f h = f t rule h
+IfWrong-weaker (Err fault.Memory) P Q f h = tt

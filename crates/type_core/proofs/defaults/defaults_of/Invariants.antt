@@ -1,0 +1,8 @@
+use Rattle.type_core.specs.Defaulting.{AreSoFar, unknown_count}
+use Rattle.type_core.proofs.defaults.defaults_of.Given as goal
+
+abbrev pub invariant-rounds : goal.invariant-rounds
+invariant-rounds l = AreSoFar l.types l.defaults
+
+abbrev pub decreases-rounds : goal.decreases-rounds
+decreases-rounds l = unknown_count l.defaults

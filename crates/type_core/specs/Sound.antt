@@ -1,0 +1,37 @@
+-- What holds of the types of a schema that has no fault.
+use Rattle.std.specs.Prelude.{◌≡◌, ℕ, ◌<◌, List, length, IsTrue, IsSome, Option, Some, None, Ok}
+use Rattle.snap_core.specs.Value.{Value}
+use Rattle.snap_core.specs.View.{view}
+use Rattle.snap_core.specs.declared.snap.Snap.{Snap}
+use Rattle.snap_core.specs.declared.number.TypeNo.{TypeNo}
+use Rattle.type_core.specs.declared.shape.Shape.TheVariants.{Optional, Union}
+use Rattle.type_core.specs.Table.{Table, Catalog, IsBegun, plan_of, shape_at, default_at}
+use Rattle.type_core.specs.Names.{LeadsTo}
+use Rattle.type_core.specs.Unions.{are_apart}
+use Rattle.type_core.specs.Making.{maker_of}
+use Rattle.type_core.specs.Makes.{Makes, is_light}
+
+-- each default that is known is what the type of its number makes where no value is given
+abbrev pub AreMade : Table → List (Option Snap) → Type 0
+AreMade table defaults = (t : ℕ) (s : Value) → default_at defaults t ≡ Some s → Makes table t None s
+
+-- where an optional type's default can be made, and is light enough once it is, it is known
+abbrev pub AreAll : Table → List (Option Snap) → Type 0
+AreAll table defaults =
+    (t : ℕ) (u : TypeNo) (d : Snap) (s : Value) → shape_at table t ≡ Some (Optional u d) → maker_of table defaults (view d) u.0 ≡ Ok s
+    → IsTrue (is_light s) → default_at defaults t ≡ Some s
+
+-- each optional type has a known default, and that is what it makes where no value is given
+pub record HasDefaults (types : Catalog) : Type 0 where
+  pub known : (t : ℕ) (u : TypeNo) (d : Snap) → shape_at types.table t ≡ Some (Optional u d) → IsSome (default_at types.defaults t)
+  pub made : AreMade types.table types.defaults
+
+-- types without a fault: they name what is there, none leads back to itself, unions are told apart, and each optional type has its default
+pub record IsSound (types : Catalog) : Type 0 where
+  pub begun : IsBegun (plan_of types.table)
+  pub root : types.root.0 < length types.table.models
+  pub loopless : (t : ℕ) → ¬ (LeadsTo types.table t t)
+  pub apart : (t : ℕ) (ms : List TypeNo) → shape_at types.table t ≡ Some (Union ms) → IsTrue (are_apart types.table ms)
+  pub known : (t : ℕ) (u : TypeNo) (d : Snap) → shape_at types.table t ≡ Some (Optional u d) → IsSome (default_at types.defaults t)
+  pub made : AreMade types.table types.defaults
+  pub all : AreAll types.table types.defaults

@@ -1,0 +1,156 @@
+//! What optional types make where no value is given.
+ghost use Rattle.std.specs.Prelude.{◌≡◌, ◌<◌, length, replicate, All, Some, None, is_some, if◌then◌else◌, IfOk, MatchOption};
+ghost use Rattle.std.specs.Bool.{OnTrue, OnFalse};
+ghost use Rattle.snap_core.specs.Value.{IsPlain};
+ghost use Rattle.snap_core.specs.View.{view};
+ghost use Rattle.type_core.specs.Table.{HoldsPlain, default_at};
+ghost use Rattle.type_core.specs.Makes as makes;
+ghost use Rattle.type_core.specs.Sound.{AreMade, AreAll};
+ghost use Rattle.type_core.specs.Defaulting.{AreSoFar, IsTried, IsNew, IsLightMade, MakesNoLight, unknown_count};
+
+use crate::making::{MakeError, make_value};
+use crate::shape::Shape;
+use crate::tagged::Tagged;
+use list_core::Parts;
+use snap_core::{Snap, TypeNo};
+use std::alloc::{AllocError, Global};
+
+/// The greatest weight of a default once it is made.
+const MAX_WEIGHT: u64 = 65_536;
+
+/// The greatest depth of a default once it is made.
+const MAX_DEPTH: u64 = 64;
+
+/// What each optional type makes of its default, by the types' numbers. A default that needs others
+/// is made in a round after them; none is where a default isn't made.
+pub fn defaults_of(alloc: Global, types: &Tagged) -> Result<Parts<Option<Snap>>, AllocError>
+    requires plain { All HoldsPlain types.now.shapes }
+    ensures made { IfOk result (λ defaults. AreMade types.now defaults) }
+    ensures all { IfOk result (λ defaults. AreAll types.now defaults) }
+    ensures count { IfOk result (λ defaults. length defaults ≡ length types.now.shapes) }
+{
+    let mut defaults = unknown(alloc, types.table().shapes.len())?;
+    'rounds: while sweep(alloc, types, &mut defaults)? {}
+    Ok(defaults)
+}
+
+/// No default for so many types.
+fn unknown(alloc: Global, count: usize) -> Result<Parts<Option<Snap>>, AllocError>
+    ensures { IfOk result (λ defaults. defaults ≡ replicate count None) }
+{
+    let mut defaults = Parts::new(alloc);
+    for _t in 0..count {
+        defaults.push(None)?;
+    }
+    Ok(defaults)
+}
+
+/// Adds the defaults that are made with those that are known; whether there was one.
+fn sweep(
+    alloc: Global,
+    types: &Tagged,
+    defaults: &mut Parts<Option<Snap>>,
+) -> Result<bool, AllocError>
+    requires plain { All HoldsPlain types.now.shapes }
+    requires so_far { AreSoFar types.now defaults.old }
+    ensures so_far { IfOk result (λ added. AreSoFar types.now defaults.new) }
+    ensures added { IfOk result
+        (λ added. OnTrue added (unknown_count defaults.new < unknown_count defaults.old)) }
+    ensures none { IfOk result (λ added. OnFalse added (AreAll types.now defaults.new)) }
+{
+    let mut added = false;
+    for t in 0..types.table().shapes.len() {
+        if add_default(alloc, types, defaults, TypeNo(t))? {
+            added = true;
+        }
+    }
+    Ok(added)
+}
+
+/// Adds the default of a type where it is made and isn't known; whether it was added.
+fn add_default(
+    alloc: Global,
+    types: &Tagged,
+    defaults: &mut Parts<Option<Snap>>,
+    t: TypeNo,
+) -> Result<bool, AllocError>
+    requires plain { All HoldsPlain types.now.shapes }
+    requires so_far { AreSoFar types.now defaults.old }
+    ensures so_far { IfOk result (λ added. AreSoFar types.now defaults.new) }
+    ensures added { IfOk result
+        (λ added. OnTrue added (unknown_count defaults.new < unknown_count defaults.old)) }
+    ensures none { IfOk result (λ added. OnFalse added (defaults.new ≡ defaults.old)) }
+    ensures tried { IfOk result (λ added. OnFalse added (IsTried types.now defaults.old t.0)) }
+{
+    match new_default(alloc, types, defaults.as_slice(), t)? {
+        Some(made) => {
+            defaults.set(t.0, Some(made));
+            Ok(true)
+        }
+        None => Ok(false),
+    }
+}
+
+/// What a type makes of its default, if it makes anything and it isn't known.
+fn new_default(
+    alloc: Global,
+    types: &Tagged,
+    defaults: &[Option<Snap>],
+    t: TypeNo,
+) -> Result<Option<Snap>, AllocError>
+    requires plain { All HoldsPlain types.now.shapes }
+    requires so_far { AreSoFar types.now defaults.now }
+    ensures { IfOk result (λ made. MatchOption made
+        (IsTried types.now defaults.now t.0)
+        (λ s. IsNew types.now defaults.now t.0 (view s))) }
+{
+    if is_known(defaults, t) {
+        return Ok(None);
+    }
+    match types.table().shape(t) {
+        Some(Shape::Optional(u, given)) => make_light(alloc, types, defaults, *u, given),
+        _ => Ok(None),
+    }
+}
+
+/// Whether the default of a type is known.
+pub fn is_known(defaults: &[Option<Snap>], t: TypeNo) -> bool
+    ensures { result ≡ is_some (default_at defaults.now t.0) }
+{
+    match defaults.get(t.0) {
+        Some(Some(_)) => true,
+        _ => false,
+    }
+}
+
+/// What a type makes of a value, if it makes something light enough for a default.
+fn make_light(
+    alloc: Global,
+    types: &Tagged,
+    defaults: &[Option<Snap>],
+    t: TypeNo,
+    given: &Snap,
+) -> Result<Option<Snap>, AllocError>
+    requires plain { IsPlain (view given.now) }
+    ensures { IfOk result (λ made. MatchOption made
+        (MakesNoLight types.now defaults.now t.0 (view given.now))
+        (λ s. IsLightMade types.now defaults.now t.0 (view given.now) (view s))) }
+{
+    match make_value(alloc, types, defaults, t, given) {
+        Ok(made) => Ok(if_light(made)),
+        Err(MakeError::Refused(_)) => Ok(None),
+        Err(MakeError::Memory) => Err(AllocError),
+    }
+}
+
+fn if_light(made: Snap) -> Option<Snap>
+    ensures { result ≡ (if makes.is_light (view made) then Some made else None) }
+{
+    if is_light(&made) { Some(made) } else { None }
+}
+
+fn is_light(made: &Snap) -> bool
+    ensures { result ≡ makes.is_light (view made.now) }
+{
+    made.weight(MAX_WEIGHT + 1) <= MAX_WEIGHT && made.depth(MAX_DEPTH + 1) <= MAX_DEPTH
+}

@@ -1,0 +1,55 @@
+//! Which shape judges a value.
+ghost use Rattle.std.specs.Prelude.{◌≡◌, ℕ, Option};
+ghost use Rattle.std.specs.Option.{option_copied};
+ghost use Rattle.snap_core.specs.Value.{IsPlain};
+ghost use Rattle.snap_core.specs.View.{view};
+ghost use Rattle.type_core.specs.declared.shape.Shape.{Shape as Judge};
+ghost use Rattle.type_core.specs.Table.{shape_at};
+ghost use Rattle.type_core.specs.Judging.{judged_by, judged_step};
+ghost use Rattle.type_core.specs.JudgingSteps.{judged_after};
+
+use crate::shape::Shape;
+use crate::tagged::Tagged;
+use crate::unions::choose;
+use snap_core::{Snap, TypeNo};
+
+/// Where a value is judged: at another type, or by this shape.
+enum Step<'a> {
+    On(TypeNo),
+    Ends(Option<&'a Shape>),
+}
+
+/// The shape that judges a value at a type: names, optional types, maybes and unions lead to it.
+pub fn judged<'a>(types: &'a Tagged, given: &Snap, t: TypeNo) -> Option<&'a Shape>
+    requires { IsPlain (view given.now) }
+    ensures { option_copied result ≡ judged_by types.now (view given.now) t.0 }
+{
+    let mut at = t;
+    for _step in 0..types.table().shapes.len() {
+        match next_step(types, given, at) {
+            Step::On(next) => at = next,
+            Step::Ends(shape) => return shape,
+        }
+    }
+    None
+}
+
+fn next_step<'a>(types: &'a Tagged, given: &Snap, t: TypeNo) -> Step<'a>
+    requires { IsPlain (view given.now) }
+    ensures { (further : ℕ → Option Judge) → judged_after further result
+        ≡ judged_step types.now (view given.now) further (shape_at types.now t.0) }
+{
+    let shape = types.table().shape(t);
+    match shape {
+        Some(Shape::Named(u) | Shape::Optional(u, _)) => Step::On(*u),
+        Some(Shape::Maybe(u) | Shape::MaybeNull(u)) => match given {
+            Snap::Null => Step::Ends(shape),
+            _ => Step::On(*u),
+        },
+        Some(Shape::Union(members)) => match choose(types, t, members.as_slice(), given) {
+            Some(member) => Step::On(member),
+            None => Step::Ends(None),
+        },
+        _ => Step::Ends(shape),
+    }
+}

@@ -1,0 +1,174 @@
+//! Making the parts of lists and records.
+ghost use Rattle.std.specs.Prelude.{◌≡◌, [], ◌∷◌, ◌++◌, IfOk, OnOk, decimal};
+ghost use Rattle.std.specs.Option.{option_copied};
+ghost use Rattle.snap_core.specs.Value.{Value, IsPlain, ArePlain, AreAscending};
+ghost use Rattle.snap_core.specs.View.{view, items_view, fields_view};
+ghost use Rattle.type_core.specs.Table.{default_at};
+ghost use Rattle.type_core.specs.Making as specs;
+ghost use Rattle.type_core.specs.Making.{Outcome};
+ghost use Rattle.type_core.specs.Made.{Answers};
+
+use crate::making::{MakeError, make_value, refused};
+use crate::shape::{Property, Shape};
+use crate::tagged::Tagged;
+use list_core::Parts;
+use pointer_core::{Refusal, Rule};
+use snap_core::{Field, Fields, Items, Snap, Txt, TypeNo, position};
+use std::alloc::{AllocError, Global};
+
+/// What a type makes where no value is given.
+pub fn make_absent(
+    alloc: Global,
+    types: &Tagged,
+    defaults: &[Option<Snap>],
+    t: TypeNo,
+) -> Result<Snap, MakeError>
+    ensures { Answers view result (specs.absent types.now defaults.now t.0) }
+{
+    let t = types.table().named(t);
+    match types.table().shape(t) {
+        Some(Shape::Optional(_, _)) => copy_default(alloc, defaults, t),
+        Some(Shape::Maybe(_) | Shape::MaybeNull(_) | Shape::Frozen) => Ok(Snap::Null),
+        Some(Shape::Array(_)) => Ok(Snap::List(Parts::new(alloc))),
+        Some(Shape::Map(_)) => Ok(Snap::Dict(Parts::new(alloc))),
+        _ => Err(refused(alloc, Rule::Mistyped)),
+    }
+}
+
+fn copy_default(alloc: Global, defaults: &[Option<Snap>], t: TypeNo) -> Result<Snap, MakeError>
+    ensures { Answers view result (specs.default_made (default_at defaults.now t.0)) }
+{
+    match defaults.get(t.0) {
+        Some(Some(known)) => Ok(known.clone_in(alloc)?),
+        _ => Err(refused(alloc, Rule::Mistyped)),
+    }
+}
+
+/// The items of an array.
+#[cycle(making)]
+pub fn make_items(
+    alloc: Global,
+    types: &Tagged,
+    defaults: &[Option<Snap>],
+    of: TypeNo,
+    items: &[Snap],
+) -> Result<Items, MakeError>
+    requires plain { ArePlain (items_view items.now) }
+    ensures { Answers items_view result (specs.items_made 0 of.0 (specs.makers_of types.now defaults.now (items_view items.now))) }
+{
+    let mut made = Parts::new(alloc);
+    for (index, item) in items.iter().enumerate() {
+        let value = make_value(alloc, types, defaults, of, item);
+        let value = under_index(alloc, index, value)?;
+        made.push(value)?;
+    }
+    Ok(made)
+}
+
+/// The values of a map, each under its key.
+#[cycle(making)]
+pub fn make_entries(
+    alloc: Global,
+    types: &Tagged,
+    defaults: &[Option<Snap>],
+    of: TypeNo,
+    fields: &[Field],
+) -> Result<Fields, MakeError>
+    requires plain { AreAscending (fields_view fields.now) }
+    ensures { Answers fields_view result (specs.entries_made of.0 (specs.fields_of types.now defaults.now (fields_view fields.now))) }
+{
+    let mut made = Parts::new(alloc);
+    for field in fields {
+        let value = make_value(alloc, types, defaults, of, &field.value);
+        let value = under(alloc, field.key.text(), value)?;
+        push_entry(alloc, &mut made, field.key.text(), value)?;
+    }
+    Ok(made)
+}
+
+/// The properties of a model, each from the record's field of its name or from none.
+#[cycle(making)]
+pub fn make_properties(
+    alloc: Global,
+    types: &Tagged,
+    defaults: &[Option<Snap>],
+    fields: &[Field],
+    properties: &[Property],
+) -> Result<Fields, MakeError>
+    requires plain { AreAscending (fields_view fields.now) }
+    ensures { let absent = specs.absent types.now defaults.now in
+        let given = specs.fields_of types.now defaults.now (fields_view fields.now) in
+        Answers fields_view result (specs.properties_made absent properties.now given) }
+{
+    let mut made = Parts::new(alloc);
+    for property in properties {
+        let value = make_property(alloc, types, defaults, fields, property);
+        let value = under(alloc, property.name.text(), value)?;
+        push_entry(alloc, &mut made, property.name.text(), value)?;
+    }
+    Ok(made)
+}
+
+#[cycle(making)]
+fn make_property(
+    alloc: Global,
+    types: &Tagged,
+    defaults: &[Option<Snap>],
+    fields: &[Field],
+    property: &Property,
+) -> Result<Snap, MakeError>
+    requires plain { AreAscending (fields_view fields.now) }
+    ensures { let absent = specs.absent types.now defaults.now in
+        let given = specs.fields_of types.now defaults.now (fields_view fields.now) in
+        Answers view result (specs.property_made absent property.now (specs.field_at property.now.name given)) }
+{
+    match position(fields, property.name.text()) {
+        Some(at) => make_value(alloc, types, defaults, property.of, &fields[at].value),
+        None => make_absent(alloc, types, defaults, property.of),
+    }
+}
+
+/// What making came to as it reads one level higher up, where `token` leads to its place.
+fn under(alloc: Global, token: &str, made: Result<Snap, MakeError>) -> Result<Snap, MakeError>
+    ensures { (outcome : Outcome Value) → Answers view made outcome
+        → Answers view result (specs.under token.now outcome) }
+{
+    match made {
+        Ok(value) => Ok(value),
+        Err(MakeError::Memory) => Err(MakeError::Memory),
+        Err(MakeError::Refused(refusal)) => {
+            Err(MakeError::Refused(step_down(alloc, token, refusal)?))
+        }
+    }
+}
+
+fn under_index(
+    alloc: Global,
+    index: usize,
+    made: Result<Snap, MakeError>,
+) -> Result<Snap, MakeError>
+    ensures { (outcome : Outcome Value) → Answers view made outcome
+        → Answers view result (specs.under (decimal index) outcome) }
+{
+    match made {
+        Ok(value) => Ok(value),
+        Err(error) => {
+            let token = format!(in alloc; "{index}")?;
+            under(alloc, token.as_str(), Err(error))
+        }
+    }
+}
+
+fn step_down(alloc: Global, token: &str, mut refusal: Refusal) -> Result<Refusal, AllocError>
+    ensures { IfOk result (λ r. r ≡ record { path = token.now ∷ refusal.path; rule = refusal.rule }) }
+{
+    refusal.path.push_front(Txt::copy(alloc, token)?)?;
+    Ok(refusal)
+}
+
+fn push_entry(alloc: Global, made: &mut Fields, key: &str, value: Snap) -> Result<(), AllocError>
+    ensures { OnOk result (made.new ≡ made.old ++ record { key = key.now; value = value } ∷ []) }
+{
+    let key = Txt::copy(alloc, key)?;
+    made.push(Field { key, value })
+}

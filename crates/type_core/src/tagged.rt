@@ -1,0 +1,64 @@
+//! Types with the tags of their unions.
+ghost use Rattle.std.specs.Prelude.{◌≡◌, map, IfOk};
+ghost use Rattle.std.specs.Option.{option_copied};
+ghost use Rattle.type_core.specs.Table.{shape_at};
+ghost use Rattle.type_core.specs.Unions.{tag_in};
+
+use crate::table::Table;
+use crate::tags::tag_in;
+use list_core::Parts;
+use snap_core::{Txt, TypeNo};
+use std::alloc::{AllocError, Global};
+use std::marker::Model;
+
+/// Types, and for each union the tag that tells its models apart. Contracts see the types alone.
+#[derive(Debug, Drop)]
+pub struct Tagged {
+    table: Table,
+    tags: Parts<Option<Txt>>,
+}
+
+impl Model for Tagged {
+    ghost use Rattle.std.specs.Prelude.{◌≡◌, Some, map};
+    ghost use Rattle.type_core.specs.Table as specs;
+    ghost use Rattle.type_core.specs.Unions.{tag_in};
+    ghost use Rattle.std.specs.Coded.{codes};
+    ghost use Rattle.snap_core.specs.contracts.snap.Snap as snap;
+
+    ghost Value = { specs.Table };
+
+    ghost coded = { Prim.hlevel (codes, snap.the_row.coded) };
+
+    ghost view = { λ t. t.table };
+
+    ghost invariant = { λ t. t.tags ≡ map (λ shape. tag_in t.table (Some shape)) t.table.shapes };
+}
+
+impl Tagged {
+    /// Finds the tags of the unions of a table.
+    pub fn new(alloc: Global, table: Table) -> Result<Tagged, AllocError>
+        ensures { IfOk result (λ tagged. tagged ≡ table) }
+    {
+        let mut tags = Parts::new(alloc);
+        for shape in table.shapes.as_slice() {
+            tags.push(tag_in(alloc, &table, shape)?)?;
+        }
+        Ok(Tagged { table, tags })
+    }
+
+    pub fn table(&self) -> &Table
+        ensures { result.now ≡ self.now }
+    {
+        &self.table
+    }
+
+    /// The tag of a union of two or more models.
+    pub fn tag(&self, t: TypeNo) -> Option<&Txt>
+        ensures { option_copied result ≡ tag_in self.now (shape_at self.now t.0) }
+    {
+        match self.tags.get(t.0) {
+            Some(Some(tag)) => Some(tag),
+            _ => None,
+        }
+    }
+}

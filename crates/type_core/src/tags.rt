@@ -1,0 +1,138 @@
+//! The tag by which a union's models are told apart.
+ghost use Rattle.std.specs.Prelude.{◌≡◌, [], ◌∷◌, ◌++◌, ◌&&◌, map, IfOk, OnOk, option_map};
+ghost use Rattle.std.specs.List.{list_any, find};
+ghost use Rattle.std.specs.Option.{option_copied};
+ghost use Rattle.snap_core.specs.View.{view};
+ghost use Rattle.type_core.specs.Names.{shape_by};
+ghost use Rattle.type_core.specs.Unions as unions;
+
+use crate::shape::{Property, Shape};
+use crate::table::Table;
+use crate::unions::{is_literal, model_of};
+use list_core::Parts;
+use snap_core::{ModelNo, Snap, Txt, TypeNo};
+use std::alloc::{AllocError, Global};
+
+/// The literal that the model's property of this name is, names followed.
+pub fn literal_at<'a>(table: &'a Table, name: &str, m: ModelNo) -> Option<&'a Snap>
+    ensures { option_map view (option_copied result) ≡ unions.literal_at table.now name.now m }
+{
+    let property = property_at(table.properties(m), name)?;
+    match table.named_shape(property.of) {
+        Some(Shape::Literal(literal)) => Some(literal),
+        _ => None,
+    }
+}
+
+fn property_at<'a>(properties: &'a [Property], name: &str) -> Option<&'a Property>
+    ensures { option_copied result ≡ unions.property_at name.now properties.now }
+{
+    properties.iter().find(|p| name == p.name.text())
+}
+
+/// A copy of the tag of a shape that is a union of two or more models.
+pub fn tag_in(alloc: Global, table: &Table, shape: &Shape) -> Result<Option<Txt>, AllocError>
+    ensures { IfOk result (λ tag. tag ≡ unions.tag_in table.now (Some shape.now)) }
+{
+    match shape {
+        Shape::Union(members) => tag_of(alloc, table, members.as_slice()),
+        _ => Ok(None),
+    }
+}
+
+fn tag_of(alloc: Global, table: &Table, members: &[TypeNo]) -> Result<Option<Txt>, AllocError>
+    ensures { IfOk result (λ tag. tag ≡ unions.tag_of table.now (unions.models_of table.now members.now)) }
+{
+    let models = models_of(alloc, table, members)?;
+    match tag_among(table, models.as_slice()) {
+        Some(tag) => Ok(Some(Txt::copy(alloc, tag)?)),
+        None => Ok(None),
+    }
+}
+
+/// The members that are models, each with its model.
+pub fn models_of(
+    alloc: Global,
+    table: &Table,
+    members: &[TypeNo],
+) -> Result<Parts<(TypeNo, ModelNo)>, AllocError>
+    ensures { IfOk result (λ models. models ≡ unions.models_of table.now members.now) }
+{
+    let mut models = Parts::new(alloc);
+    for t in members {
+        push_model(&mut models, *t, model_of(table, *t))?;
+    }
+    Ok(models)
+}
+
+fn push_model(
+    models: &mut Parts<(TypeNo, ModelNo)>,
+    t: TypeNo,
+    model: Option<ModelNo>,
+) -> Result<(), AllocError>
+    ensures { OnOk result (models.new ≡ models.old ++ unions.model_before t model []) }
+{
+    match model {
+        Some(m) => models.push((t, m)),
+        None => Ok(()),
+    }
+}
+
+/// The first name by bytes that tells two or more models apart.
+pub fn tag_among<'a>(table: &'a Table, models: &[(TypeNo, ModelNo)]) -> Option<&'a str>
+    ensures { option_map (λ tag. tag.now) result ≡ unions.tag_of table.now models.now }
+{
+    if models.len() < 2 {
+        return None;
+    }
+    first_apart(table, models, table.properties(models[0].1))
+}
+
+/// The first of the properties' names that tells the models apart.
+fn first_apart<'a>(
+    table: &Table,
+    models: &[(TypeNo, ModelNo)],
+    properties: &'a [Property],
+) -> Option<&'a str>
+    ensures { option_map (λ tag. tag.now) result ≡ find (unions.tells_apart table.now models.now) (map (λ p. p.name) properties.now) }
+{
+    for property in properties {
+        if tells_apart(table, models, property.name.text()) {
+            return Some(property.name.text());
+        }
+    }
+    None
+}
+
+/// Whether each of the models has a literal property of this name, and the literals differ.
+fn tells_apart(table: &Table, models: &[(TypeNo, ModelNo)], name: &str) -> bool
+    ensures { result ≡ unions.tells_apart table.now models.now name.now }
+{
+    let mut rest = models;
+    while let Some((m, others)) = rest.split_first() {
+        if !stands_out(table, *m, others, name) {
+            return false;
+        }
+        rest = others;
+    }
+    true
+}
+
+/// Whether a model has a literal property of this name, and none of the others has the same.
+fn stands_out(table: &Table, m: (TypeNo, ModelNo), others: &[(TypeNo, ModelNo)], name: &str) -> bool
+    ensures { unions.tells_apart table.now (m ∷ others.now) name.now ≡ (result && unions.tells_apart table.now others.now name.now) }
+{
+    match literal_at(table, name, m.1) {
+        Some(literal) => !has_literal(table, others, name, literal),
+        None => false,
+    }
+}
+
+/// Whether one of the models has this literal under the name.
+fn has_literal(table: &Table, models: &[(TypeNo, ModelNo)], name: &str, literal: &Snap) -> bool
+    ensures { result ≡ list_any (λ m. unions.is_literal (view literal.now) (unions.literal_at table.now name.now m.1)) models.now }
+{
+    models
+        .iter()
+        .any(|m| is_literal(literal_at(table, name, m.1), literal))
+}

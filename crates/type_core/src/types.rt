@@ -1,0 +1,114 @@
+//! The finished types of a schema.
+ghost use Rattle.std.specs.Prelude.{◌≡◌, ◌<◌, length, Some, option_map, slice_get};
+ghost use Rattle.snap_core.specs.Value.{IsPlain};
+ghost use Rattle.snap_core.specs.View.{view};
+ghost use Rattle.type_core.specs.Table.{AreNamed, AreTyped, IsShapeOf, plan_of, shape_at, properties_of};
+ghost use Rattle.type_core.specs.Sound.{IsSound};
+ghost use Rattle.type_core.specs.Unions as unions;
+
+use crate::shape::{Properties, Shape};
+use crate::tagged::Tagged;
+use crate::unions::choose;
+use list_core::Parts;
+use snap_core::{ModelNo, Name, Snap, TypeNo};
+use std::marker::Model;
+
+/// The types of a schema. Contracts see a `Catalog`.
+#[derive(Debug, Drop)]
+pub struct Types {
+    tagged: Tagged,
+    root: ModelNo,
+    defaults: Parts<Option<Snap>>,
+}
+
+impl Model for Types {
+    ghost use Rattle.type_core.specs.Table.{Catalog};
+    ghost use Rattle.type_core.specs.Sound.{IsSound};
+    ghost use Rattle.std.specs.Coded.{codes};
+    ghost use Rattle.snap_core.specs.contracts.snap.Snap as snap;
+
+    ghost Value = { Catalog };
+
+    ghost coded = { Prim.hlevel (codes, snap.the_row.coded) };
+
+    ghost view = { λ t. record { table = t.tagged; root = t.root; defaults = t.defaults } };
+
+    ghost invariant = { λ t. IsSound (record { table = t.tagged; root = t.root; defaults = t.defaults }) };
+}
+
+impl Types {
+    /// Puts finished types together.
+    pub(crate) fn of(tagged: Tagged, root: ModelNo, defaults: Parts<Option<Snap>>) -> Types
+        requires { IsSound (record { table = tagged; root = root; defaults = defaults }) }
+        ensures { result ≡ record { table = tagged; root = root; defaults = defaults } }
+    {
+        Types {
+            tagged,
+            root,
+            defaults,
+        }
+    }
+
+    /// The model that documents are of.
+    pub fn root(&self) -> ModelNo
+        ensures root { result ≡ self.now.root }
+        ensures sound { IsSound self.now }
+    {
+        self.root
+    }
+
+    pub fn name(&self, m: ModelNo) -> &Name
+        requires { m.0 < length self.now.table.models }
+        ensures { option_map (λ model. model.name) (slice_get self.now.table.models m.0) ≡ Some result.now }
+    {
+        &self.tagged.table().models.as_slice()[m.0].name
+    }
+
+    pub fn properties(&self, m: ModelNo) -> &Properties
+        requires { m.0 < length self.now.table.models }
+        ensures properties { properties_of self.now.table m.0 ≡ result.now }
+        ensures named { AreNamed result.now }
+        ensures typed { AreTyped (length self.now.table.shapes) result.now }
+    {
+        &self.tagged.table().models.as_slice()[m.0].properties
+    }
+
+    /// The type that the model is.
+    pub fn model_type(&self, m: ModelNo) -> TypeNo
+        requires { m.0 < length self.now.table.models }
+        ensures model { shape_at self.now.table result.0 ≡ Some (Shape.Model m) }
+        ensures known { result.0 < length self.now.table.shapes }
+    {
+        self.tagged.table().models.as_slice()[m.0].own
+    }
+
+    pub fn shape(&self, t: TypeNo) -> &Shape
+        requires { t.0 < length self.now.table.shapes }
+        ensures shape { shape_at self.now.table t.0 ≡ Some result.now }
+        ensures names { IsShapeOf (plan_of self.now.table) result.now }
+        ensures sound { IsSound self.now }
+    {
+        &self.tagged.table().shapes.as_slice()[t.0]
+    }
+
+    /// The types with the tags of their unions, and what the optional types make where no value
+    /// is given.
+    pub(crate) fn inside(&self) -> (&Tagged, &[Option<Snap>])
+        ensures types { result.0.now ≡ self.now.table }
+        ensures defaults { result.1.now ≡ self.now.defaults }
+        ensures sound { IsSound self.now }
+    {
+        (&self.tagged, self.defaults.as_slice())
+    }
+}
+
+/// The member of the union `t` that a value chooses.
+pub fn chosen(types: &Types, t: TypeNo, given: &Snap) -> Option<TypeNo>
+    requires plain { IsPlain (view given.now) }
+    ensures { result ≡ unions.chosen_by types.now.table (shape_at types.now.table t.0) (view given.now) }
+{
+    match types.tagged.table().shape(t) {
+        Some(Shape::Union(members)) => choose(&types.tagged, t, members.as_slice(), given),
+        _ => None,
+    }
+}
