@@ -1,0 +1,97 @@
+-- The words of schema files, and the forms of type expressions.
+use Rattle.std.specs.Prelude.{ℕ, zero, suc, ◌+◌, List, [], ◌∷◌, codes, Bool, true, false, ◌&&◌, ◌||◌, is_some, Option, Some, None, if◌then◌else◌}
+use Rattle.std.specs.List.{list_any}
+use Rattle.std.specs.Str.{bytes_eq}
+use Rattle.snap_core.specs.Value.{Value, integer, text, Members, no_members, member, value_at}
+
+-- a word among some words
+abbrev pub is_word : List (List ℕ) → List ℕ → Bool
+is_word words word = list_any (bytes_eq word) words
+
+-- the words that stand for plain types
+abbrev pub plain_words : List (List ℕ)
+plain_words = codes "string" ∷ codes "integer" ∷ codes "boolean" ∷ codes "null" ∷ codes "frozen" ∷ []
+
+-- the words that stand for identifiers, which aren't built yet
+abbrev pub identifier_words : List (List ℕ)
+identifier_words = codes "identifier" ∷ codes "identifierNumber" ∷ []
+
+-- a name that no type of a schema may have
+abbrev pub is_taken : List ℕ → Bool
+is_taken word = is_word plain_words word || is_word identifier_words word
+
+-- the forms of type expressions that are an object with one key
+pub data Form : Type 0 where
+  literal : Form
+  enumeration : Form
+  optional : Form
+  union : Form
+  refinement : Form
+  -- maybe, maybeNull, array and map, which hold one type expression
+  around : Form
+  -- any other key
+  unknown : Form
+
+abbrev pub around_words : List (List ℕ)
+around_words = codes "maybe" ∷ codes "maybeNull" ∷ codes "array" ∷ codes "map" ∷ []
+
+abbrev pub form_of : List ℕ → Form
+form_of key =
+    if bytes_eq key (codes "literal") then literal
+    else if bytes_eq key (codes "enumeration") then enumeration
+    else if bytes_eq key (codes "optional") then optional
+    else if bytes_eq key (codes "union") then union
+    else if bytes_eq key (codes "refinement") then refinement
+    else if is_word around_words key then around
+    else unknown
+
+-- whether an object has a key
+abbrev pub has_key : List ℕ → Members (Unit {0}) → Bool
+has_key key ms = is_some (value_at key ms)
+
+-- the kinds that may be refined
+pub data Base : Type 0 where
+  texts : Base
+  integers : Base
+
+abbrev pub base_word : List ℕ → Option Base
+base_word word =
+    if bytes_eq word (codes "string") then Some texts
+    else if bytes_eq word (codes "integer") then Some integers
+    else None
+
+-- the kind that a type expression is, following at most so many names of these types
+abbrev pub base_within : Members (Unit {0}) → ℕ → Option Value → Option Base
+base_within types zero v = None
+base_within types (suc most) (Some (text s)) = if is_taken s then base_word s else base_within types most (value_at s types)
+base_within types (suc most) _ = None
+
+-- how many entries there are
+abbrev pub count : Members (Unit {0}) → ℕ
+count no_members = 0
+count (member k v ms) = count ms + 1
+
+-- the kind that a type expression is, names followed; None for any other type, and where names lead in a circle
+abbrev pub base_of : Members (Unit {0}) → Value → Option Base
+base_of types v = base_within types (count types + 1) (Some v)
+
+-- an integer, and a text
+abbrev pub is_integer : Value → Bool
+is_integer (integer z) = true
+is_integer _ = false
+
+abbrev pub is_text : Value → Bool
+is_text (text s) = true
+is_text _ = false
+
+-- the conditions of each kind, and what stands under them
+abbrev pub bound_words : List (List ℕ)
+bound_words = codes "min" ∷ codes "max" ∷ []
+
+abbrev pub length_words : List (List ℕ)
+length_words = codes "minLength" ∷ codes "maxLength" ∷ []
+
+abbrev pub is_condition : Option Base → List ℕ → Value → Bool
+is_condition (Some integers) key v = is_word bound_words key && is_integer v
+is_condition (Some texts) key v = (is_word length_words key && is_integer v) || (bytes_eq key (codes "startsWith") && is_text v)
+is_condition None key v = false
