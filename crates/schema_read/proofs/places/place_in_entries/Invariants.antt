@@ -1,0 +1,12 @@
+-- A place found from here on is the place from the beginning on.
+use Rattle.std.proofs.Common.{drop}
+use Rattle.snap_core.specs.View.{fields_view}
+use Rattle.schema_read.specs.declared.places.Place.{Place}
+use Rattle.schema_read.specs.Place.{IsPlaceAmong}
+use Rattle.schema_read.specs.Places.{entries_places}
+use Rattle.schema_read.proofs.places.place_in_entries.Given as goal
+
+abbrev pub invariant-loop-field : goal.invariant-loop-field
+invariant-loop-field l =
+    (place : Place) → IsPlaceAmong (entries_places (fields_view (drop l.field-index l.fields))) l.left place
+    → IsPlaceAmong (entries_places (fields_view l.fields)) l.t place

@@ -1,0 +1,93 @@
+//! Entries of the types that are models.
+ghost use Rattle.std.specs.Prelude.{◌≡◌, option_map};
+ghost use Rattle.std.specs.Option.{option_copied};
+ghost use Rattle.snap_core.specs.Value.{dict, member, no_members};
+ghost use Rattle.snap_core.specs.View.{view, fields_view};
+ghost use Rattle.schema_read.specs.Schema.{entries};
+ghost use Rattle.schema_read.specs.Types as types;
+
+use snap_core::{Field, ModelNo, Snap};
+
+/// The properties of an entry of the types that is a model.
+pub fn model_in(entry: &Snap) -> Option<&[Field]>
+    ensures { option_map fields_view (option_copied result) ≡ types.model_in (view entry.now) }
+{
+    match entry {
+        Snap::Dict(fields) => model_of(fields.as_slice()),
+        _ => None,
+    }
+}
+
+fn model_of(fields: &[Field]) -> Option<&[Field]>
+    ensures { option_map fields_view (option_copied result) ≡ types.model_in (dict tt (fields_view fields.now)) }
+{
+    if fields.len() != 1 {
+        return None;
+    }
+    let field = &fields[0];
+    model_at(field.key.text(), &field.value)
+}
+
+fn model_at<'a>(key: &str, value: &'a Snap) -> Option<&'a [Field]>
+    ensures { option_map fields_view (option_copied result)
+        ≡ types.model_in (dict tt (member key.now (view value.now) no_members)) }
+{
+    if key == "model" {
+        return Some(properties_in(value));
+    }
+    None
+}
+
+fn properties_in(model: &Snap) -> &[Field]
+    ensures { fields_view result.now ≡ types.properties_in (view model.now) }
+{
+    match model {
+        Snap::Dict(fields) => properties_of(fields.as_slice()),
+        _ => &[],
+    }
+}
+
+fn properties_of(fields: &[Field]) -> &[Field]
+    ensures { fields_view result.now ≡ types.properties_in (dict tt (fields_view fields.now)) }
+{
+    if fields.len() != 1 {
+        return &[];
+    }
+    let field = &fields[0];
+    entries_of(&field.value)
+}
+
+/// The entries of an object; none of any other value.
+pub fn entries_of(value: &Snap) -> &[Field]
+    ensures { fields_view result.now ≡ entries (view value.now) }
+{
+    match value {
+        Snap::Dict(fields) => fields.as_slice(),
+        _ => &[],
+    }
+}
+
+/// The number of the model of this name, if the name's entry is a model.
+pub fn find_model(entries: &[Field], name: &str) -> Option<ModelNo>
+    ensures { result ≡ types.model_within (fields_view entries.now) 0 name.now }
+{
+    let mut number = 0;
+    for field in entries {
+        if field.key.text() == name {
+            return number_at(&field.value, number);
+        }
+        if model_in(&field.value).is_some() {
+            number += 1;
+        }
+    }
+    None
+}
+
+fn number_at(entry: &Snap, number: usize) -> Option<ModelNo>
+    ensures { result ≡ option_map (λ _. record { 0 = number }) (types.model_in (view entry.now)) }
+{
+    match model_in(entry) {
+        Some(_) => Some(ModelNo(number)),
+        None => None,
+    }
+}
