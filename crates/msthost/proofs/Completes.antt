@@ -12,32 +12,27 @@ use Rattle.http_front.specs.Head.{is_check, is_plain, number_of, written_length,
 use Rattle.http_front.proofs.LawLemmas.{whole_is_only}
 use Rattle.edge_core.specs.Faults.{HasRisen}
 use Rattle.edge_core.specs.Door.{Links, BothTold}
-use Rattle.snap_json.specs.Reading.{reading, value}
+use Rattle.snap_json.specs.Reading.{reading}
 use Rattle.snap_core.specs.Value.{Value}
-use Rattle.type_core.specs.Table.{Table}
+use Rattle.type_core.specs.Table.{Catalog}
 use Rattle.msthost.specs.declared.exit.Exit.{Exit}
-use Rattle.msthost.specs.declared.exit.Exit.TheVariants.{Done, Usage, Unread, Unbuilt, DoorFailed, Memory, Inside}
+use Rattle.msthost.specs.declared.exit.Exit.TheVariants.{Done, Checked, Usage, Unread, Syntax, Refused, DoorFailed, Memory, Inside}
 use Rattle.msthost.specs.Exit.{exit_code}
 use Rattle.msthost.specs.Link.{Answers, written_for, status_for, reading_reply}
-use Rattle.msthost.specs.Schema.{IsSchema, spelled, table_of}
-use Rattle.msthost.specs.Reading.{schema_in}
+use Rattle.pointer_core.specs.declared.schema_rule.SchemaRule.{SchemaRule}
+use Rattle.snap_json.specs.Loose.{loosely}
+use Rattle.type_core.specs.Sound.{IsSound}
+use Rattle.type_core.specs.Faults.{HasFault}
+use Rattle.expr_core.specs.Schema.{Schema}
+use Rattle.schema_form.specs.declared.fault.Fault.{Fault}
+use Rattle.schema_read.specs.Schema.{IsSchema, IsFirst, in_form, at_root, in_types, Spells, HasFirst}
+use Rattle.msthost.specs.Words.{Command, check, run}
 use Rattle.msthost.specs.Serving.{most_bytes, Served, AnswersLink, EndsWith}
-use Rattle.msthost.specs.Run.{Files, IfSchemaFile, IsTooLong, IsSchemaOf, IsNoSchema, Answered, Causes, RequestIsGiven, IsReplied}
-use Rattle.msthost.proofs.ReadingLaws.{schema_in-spelled}
-
--- a value's reading is one value
-value_same : (v w : Value) → value v ≡ value w → v ≡ w
-value_same v w e = cc
+use Rattle.msthost.specs.Run.{Files, IfFile, IsTooLong, IsFileOf, IsSchemaOf, IsNoJson, IsFaulty, Answered, Causes, FileIsGiven, SchemaIsGiven, RequestIsGiven, IsReplied}
+use Rattle.msthost.proofs.Same.{answers-alike}
 
 some_same : {X : Type 0} (x y : X) → Some x ≡ Some y → x ≡ y
 some_same x y e = cc
-
--- a file is a schema of one table
-pub table_same : (file : List ℕ) (t u : Table) → IsSchema file t → IsSchema file u → t ≡ u
-table_same file t u x y =
-    let texts : spelled x.schema ≡ spelled y.schema = value_same _ _ (sym x.spells ∙ y.spells) in
-    let schemas : x.schema ≡ y.schema = some_same x.schema y.schema (sym (schema_in-spelled x.schema x.named) ∙ ap schema_in texts ∙ schema_in-spelled y.schema y.named) in
-    x.types ∙ ap table_of schemas ∙ sym y.types
 
 -- a body's length is at most 262,144
 guarded : (b : Bool) (n m : ℕ) → cond b (Some n) None ≡ Some m → (b ≡ true) × (n ≡ m)
@@ -94,64 +89,122 @@ all_came came left input body e (inr full) arrives =
     absurd (omega (arith, full, whole-le input body arrives, ap length e, length-append came left))
 
 -- the bytes that came are answered as the request that they are
-whole_answered : (table : Table) (came written body : List ℕ) (status : ℕ) → Arrives came (whole body []) → Answers table came written status
-    → (written ≡ reading_reply table (reading body)) × (status ≡ 0)
-whole_answered table [] written body status arrives answers = absurd (some-head arrives.head (body ++ []) arrives.begins.reads.1)
-whole_answered table (b ∷ bytes) written body status arrives answers =
+whole_answered : (types : Catalog) (came written body : List ℕ) (status : ℕ) → Arrives came (whole body []) → Answers types came written status
+    → (written ≡ reading_reply types (reading body)) × (status ≡ 0)
+whole_answered types [] written body status arrives answers = absurd (some-head arrives.head (body ++ []) arrives.begins.reads.1)
+whole_answered types (b ∷ bytes) written body status arrives answers =
     let same : answers.0 ≡ whole body [] = whole_is_only (b ∷ bytes) body [] answers.0 arrives answers.1 in
-    (answers.2 ∙ ap (written_for table) same, answers.3 ∙ ap status_for same)
+    (answers.2 ∙ ap (written_for types) same, answers.3 ∙ ap status_for same)
 
 -- what a request that is given got
-replied : (table : Table) (links after : Links) (input body : List ℕ) (rest : List (List ℕ)) (status : ℕ) → links.coming ≡ input ∷ rest
-    → Arrives input (whole body []) → AnswersLink table status links after → (status ≡ 0) × IsReplied (reading_reply table (reading body)) (Some links) (Some after)
-replied table links after input body rest status next arrives answers =
+replied : (types : Catalog) (links after : Links) (input body : List ℕ) (rest : List (List ℕ)) (status : ℕ) → links.coming ≡ input ∷ rest
+    → Arrives input (whole body []) → AnswersLink types status links after → (status ≡ 0) × IsReplied (reading_reply types (reading body)) (Some links) (Some after)
+replied types links after input body rest status next arrives answers =
     let inputs : answers.came ++ answers.left ≡ input = (let e : (answers.came ++ answers.left) ∷ after.coming ≡ input ∷ rest = sym answers.served.next ∙ next in cc) in
     let none : answers.left ≡ [] = all_came answers.came answers.left input body inputs answers.all arrives in
     let whole_input : answers.came ≡ input = sym (append-nil answers.came) ∙ ap (λ xs. answers.came ++ xs) (sym none) ∙ inputs in
-    let gets = whole_answered table answers.came answers.written body status (subst (λ xs. Arrives xs (whole body [])) (sym whole_input) arrives) answers.answers in
+    let gets = whole_answered types answers.came answers.written body status (subst (λ xs. Arrives xs (whole body [])) (sym whole_input) arrives) answers.answers in
     let served : Served answers.came [] answers.written links after = subst (λ xs. Served answers.came xs answers.written links after) none answers.served in
     (gets.1, record { came = answers.came; served = subst (λ xs. Served answers.came [] xs links after) gets.0 served })
 
 -- an answer to the link of a request that is given
-ends_replied : (table : Table) (links : Links) (after : Option Links) (input body : List ℕ) (rest : List (List ℕ)) (status : ℕ) → links.coming ≡ input ∷ rest
-    → Arrives input (whole body []) → BothTold (EndsWith table status) (Some links) after → (status ≡ 0) × IsReplied (reading_reply table (reading body)) (Some links) after
-ends_replied table links None input body rest status next arrives ends = absurd ends
-ends_replied table links (Some after) input body rest status next arrives (inl none) = absurd (let e : [] ≡ input ∷ rest = sym none.0.none_left ∙ next in cc)
-ends_replied table links (Some after) input body rest status next arrives (inr answers) = replied table links after input body rest status next arrives answers
+ends_replied : (types : Catalog) (links : Links) (after : Option Links) (input body : List ℕ) (rest : List (List ℕ)) (status : ℕ) → links.coming ≡ input ∷ rest
+    → Arrives input (whole body []) → BothTold (EndsWith types status) (Some links) after → (status ≡ 0) × IsReplied (reading_reply types (reading body)) (Some links) after
+ends_replied types links None input body rest status next arrives ends = absurd ends
+ends_replied types links (Some after) input body rest status next arrives (inl none) = absurd (let e : [] ≡ input ∷ rest = sym none.0.none_left ∙ next in cc)
+ends_replied types links (Some after) input body rest status next arrives (inr answers) = replied types links after input body rest status next arrives answers
 
--- a fact of the schema file that is given
-of_file : (word : Option (List ℕ)) (files : Files) (before : Option Links) (table : Table) (body : List ℕ) (given : RequestIsGiven word files before table body)
-    (P : List ℕ → Type 0) → IfSchemaFile files word P → P given.file
-of_file word files before table body given P fact =
-    let named : IfSchemaFile files (Some given.name) P = subst (λ w. IfSchemaFile files w P) given.named fact in
-    let told : IfSchemaFile (Some given.all_files) (Some given.name) P = subst (λ fs. IfSchemaFile fs (Some given.name) P) given.files_told named in
-    let found : IsSomeAnd (Some given.file) P = subst (λ o. IsSomeAnd o P) given.found told in
+-- a fact of the file that is given
+of_file : (files : Files) (name file : List ℕ) (P : List ℕ → Type 0) → FileIsGiven files name file → IfFile files name P → P file
+of_file files name file P given fact =
+    let told : IfFile (Some given.all_files) name P = subst (λ fs. IfFile fs name P) given.told fact in
+    let found : IsSomeAnd (Some file) P = subst (λ o. IsSomeAnd o P) given.found told in
     found
 
-answered_given : (word : Option (List ℕ)) (files : Files) (before after : Option Links) (table : Table) (body : List ℕ) (status : ℕ)
-    → RequestIsGiven word files before table body → Answered word files status before after
-    → (status ≡ 0) × IsReplied (reading_reply table (reading body)) before after
-answered_given word files before after table body status given answered =
-    let same : answered.table ≡ table = table_same given.file answered.table table (of_file word files before table body given (IsSchemaOf answered.table) answered.schema).1 given.schema in
-    let ends : BothTold (EndsWith answered.table status) (Some given.links) after = subst (λ o. BothTold (EndsWith answered.table status) o after) given.links_told answered.ends in
-    let gets : (status ≡ 0) × IsReplied (reading_reply answered.table (reading body)) (Some given.links) after =
-    ends_replied answered.table given.links after given.input body given.rest status given.next given.arrives ends in (
-      gets.0,
-      subst (λ o. IsReplied (reading_reply table (reading body)) o after) (sym given.links_told)
-          (subst (λ t. IsReplied (reading_reply t (reading body)) (Some given.links) after) same gets.1),
-    )
+-- a schema has no first fault, and is JSON
+no-fault : (file : List ℕ) (schema : Schema) (fault : Fault) → Spells file schema → HasFirst file fault → ⊥
+no-fault file schema fault x y = by_reading (loosely file) x y
+  where
+    no_first : (v : Value) (f : Fault) → IsSchema v schema → IsFirst v f → ⊥
+    no_first v f is (in_form _ rest e) = let none : [] ≡ f ∷ rest = sym is.formed ∙ e in cc
+    no_first v _ is (at_root e none) = let some : Some schema.types.root ≡ None = sym is.rooted ∙ none in cc
+    no_first v _ is (in_types root t path r e named first at) =
+        is.faultless t r (subst (λ table. HasFault table t r) (sym is.types) first.fault)
 
-pub completes : (word : Option (List ℕ)) (files : Files) (w v : ℕ) (before after : Option Links) (d e : ℕ) (exit : Exit) → Causes word files w v before after d e exit
-    → (table : Table) (body : List ℕ) → RequestIsGiven word files before table body → ¬ (HasRisen w v) → ¬ (HasRisen d e)
-    → (exit_code exit ≡ 7) ⊎ ((exit_code exit ≡ 0) × IsReplied (reading_reply table (reading body)) before after)
-completes word files w v before after d e Memory cause table body given world door = inl refl
-completes word files w v before after d e Done cause table body given world door = inr (answered_given word files before after table body 0 given cause.1)
-completes word files w v before after d e Inside cause table body given world door =
-    absurd (omega (arith, (answered_given word files before after table body 9 given cause.1).0))
-completes word files w v before after d e DoorFailed cause table body given world door = absurd (door cause.1)
-completes word files w v before after d e Usage cause table body given world door = absurd (let none : Some given.name ≡ None = sym given.named ∙ cause in cc)
-completes word files w v before after d e Unbuilt cause table body given world door = absurd ((of_file word files before table body given IsNoSchema cause.1).1 table given.schema)
-completes word files w v before after d e Unread cause table body given world door = elim cause.1 [
-  | inl risen ↦ absurd (world risen)
-  | inr long ↦ absurd (let too_long : 262144 < length given.file = of_file word files before table body given IsTooLong long in omega (arith, too_long, given.short))
-]
+    by_reading : (o : Option Value) → IsSomeAnd o (λ v. IsSchema v schema) → IsSomeAnd o (λ v. IsFirst v fault) → ⊥
+    by_reading None x y = x
+    by_reading (Some v) x y = no_first v fault x y
+
+some-reading : (file : List ℕ) (schema : Schema) → Spells file schema → loosely file ≡ None → ⊥
+some-reading file schema x e = let none : IsSomeAnd None (λ v. IsSchema v schema) = subst (λ o. IsSomeAnd o (λ v. IsSchema v schema)) e x in none
+
+module _ (files : Files) (name file : List ℕ) (given : FileIsGiven files name file) (schema : Schema) (is : IsFileOf schema file) where
+  not-long : IfFile files name IsTooLong → ⊥
+  not-long long = let too_long : 262144 < length file = of_file files name file IsTooLong given long in omega (arith, too_long, is.short)
+
+  not-other : IfFile files name IsNoJson → ⊥
+  not-other other = some-reading file schema is.spells (of_file files name file IsNoJson given other).unread
+
+  not-faulty : (pointer : List ℕ) (rule : SchemaRule) → IfFile files name (IsFaulty pointer rule) → ⊥
+  not-faulty pointer rule other =
+      let faulty = of_file files name file (IsFaulty pointer rule) given other in
+      no-fault file schema (record { path = faulty.path; rule = rule }) is.spells faulty.first
+
+-- what a run by a file that is given got
+answered_given : (files : Files) (name file : List ℕ) (given : FileIsGiven files name file) (before after : Option Links) (theirs : Schema) (body : List ℕ) (status : ℕ)
+    → IsFileOf theirs file → (links : Links) → before ≡ Some links → (input : List ℕ) (rest : List (List ℕ)) → links.coming ≡ input ∷ rest → Arrives input (whole body [])
+    → Answered (Some (run name)) files status before after → (status ≡ 0) × IsReplied (reading_reply theirs.types (reading body)) before after
+answered_given files name file given before after theirs body status is links told input rest next arrives answered =
+    let ours : IsSchemaOf answered.types file = of_file files name file (IsSchemaOf answered.types) given answered.schema in
+    let sound : IsSound ours.0.types = subst IsSound (sym ours.2) answered.sound in
+    let replies : reading_reply answered.types (reading body) ≡ reading_reply theirs.types (reading body) =
+    ap (λ (types : Catalog). reading_reply types (reading body)) (sym ours.2) ∙ answers-alike file ours.0 theirs ours.1.spells is.spells sound (reading body) in
+    let ends : BothTold (EndsWith answered.types status) (Some links) after = subst (λ o. BothTold (EndsWith answered.types status) o after) told answered.ends in
+    let gets : (status ≡ 0) × IsReplied (reading_reply answered.types (reading body)) (Some links) after =
+    ends_replied answered.types links after input body rest status next arrives ends in
+    (gets.0, subst (λ o. IsReplied (reading_reply theirs.types (reading body)) o after) (sym told) (subst (λ reply. IsReplied reply (Some links) after) replies gets.1))
+
+-- the exits of a run by a file that is given, with no fault
+module _ (files : Files) (name file : List ℕ) (given : FileIsGiven files name file) (theirs : Schema) (is : IsFileOf theirs file) (w v : ℕ)
+    (before after : Option Links) (d e : ℕ) (world : ¬ (HasRisen w v)) where
+  check_completes : (exit : Exit) → Causes (Some (check name)) files w v before after d e exit → (exit_code exit ≡ 7) ⊎ (exit_code exit ≡ 0)
+  check_completes Memory cause = inl refl
+  check_completes Checked cause = inr refl
+  check_completes Usage cause = absurd (cc)
+  check_completes Unread cause = elim cause.1 [ inl risen ↦ absurd (world risen) | inr long ↦ absurd (not-long files name file given theirs is long) ]
+  check_completes Syntax cause = absurd (not-other files name file given theirs is cause)
+  check_completes (Refused pointer rule) cause = absurd (not-faulty files name file given theirs is pointer rule cause)
+  check_completes Done cause = absurd cause.schema
+  check_completes Inside cause = absurd cause.schema
+  check_completes DoorFailed cause = absurd cause.1.schema
+
+  run_completes : (body : List ℕ) (door : ¬ (HasRisen d e)) (links : Links) → before ≡ Some links → (input : List ℕ) (rest : List (List ℕ)) → links.coming ≡ input ∷ rest
+      → Arrives input (whole body []) → (exit : Exit) → Causes (Some (run name)) files w v before after d e exit
+      → (exit_code exit ≡ 7) ⊎ ((exit_code exit ≡ 0) × IsReplied (reading_reply theirs.types (reading body)) before after)
+  run_completes body door links told input rest next arrives Memory cause = inl refl
+  run_completes body door links told input rest next arrives Checked cause = absurd cause
+  run_completes body door links told input rest next arrives Usage cause = absurd (cc)
+  run_completes body door links told input rest next arrives Unread cause =
+      elim cause.1 [ inl risen ↦ absurd (world risen) | inr long ↦ absurd (not-long files name file given theirs is long) ]
+  run_completes body door links told input rest next arrives Syntax cause = absurd (not-other files name file given theirs is cause)
+  run_completes body door links told input rest next arrives (Refused pointer rule) cause = absurd (not-faulty files name file given theirs is pointer rule cause)
+  run_completes body door links told input rest next arrives Done cause =
+      inr (answered_given files name file given before after theirs body 0 is links told input rest next arrives cause)
+  run_completes body door links told input rest next arrives Inside cause =
+      absurd (omega (arith, (answered_given files name file given before after theirs body 9 is links told input rest next arrives cause).0))
+  run_completes body door links told input rest next arrives DoorFailed cause = absurd (door cause.0)
+
+pub checks-all : (command : Option Command) (files : Files) (w v : ℕ) (before after : Option Links) (d e : ℕ) (exit : Exit) → Causes command files w v before after d e exit
+    → SchemaIsGiven command files → ¬ (HasRisen w v) → (exit_code exit ≡ 7) ⊎ (exit_code exit ≡ 0)
+checks-all command files w v before after d e exit cause given world =
+    let named : Causes (Some (check given.name)) files w v before after d e exit = subst (λ o. Causes o files w v before after d e exit) given.named cause in
+    check_completes files given.name given.file given.given given.schema.0 given.schema.1 w v before after d e world exit named
+
+pub completes : (command : Option Command) (files : Files) (w v : ℕ) (before after : Option Links) (d e : ℕ) (exit : Exit) → Causes command files w v before after d e exit
+    → (types : Catalog) (body : List ℕ) → RequestIsGiven command files before types body → ¬ (HasRisen w v) → ¬ (HasRisen d e)
+    → (exit_code exit ≡ 7) ⊎ ((exit_code exit ≡ 0) × IsReplied (reading_reply types (reading body)) before after)
+completes command files w v before after d e exit cause types body given world door =
+    let named : Causes (Some (run given.name)) files w v before after d e exit = subst (λ o. Causes o files w v before after d e exit) given.named cause in
+    let P : Catalog → Type 0 = λ (types : Catalog). (exit_code exit ≡ 7) ⊎ ((exit_code exit ≡ 0) × IsReplied (reading_reply types (reading body)) before after) in
+    subst P given.schema.2 (run_completes files given.name given.file given.given given.schema.0 given.schema.1 w v before after d e world body door
+    given.links given.links_told given.input given.rest given.next given.arrives exit named)

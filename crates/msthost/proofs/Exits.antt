@@ -3,11 +3,11 @@ use Rattle.std.proofs.Common.{◌≡◌, ℕ, ◌≤◌, inl, inr, List, [], ◌
 use Rattle.std.proofs.lemmas.Bool.{cases_lt}
 use Rattle.edge_core.specs.Faults.{HasRisen}
 use Rattle.edge_core.specs.Door.{Link, Links, BothTold, Accepts, FindsNone, after_shut}
-use Rattle.type_core.specs.Table.{Table}
+use Rattle.type_core.specs.Table.{Catalog}
 use Rattle.msthost.specs.declared.answer.End.{End}
 use Rattle.msthost.specs.declared.answer.End.TheVariants as end
 use Rattle.msthost.specs.declared.exit.Exit.{Exit}
-use Rattle.msthost.specs.declared.exit.Exit.TheVariants.{Done, Usage, Unread, Unbuilt, DoorFailed, Memory, Inside}
+use Rattle.msthost.specs.declared.exit.Exit.TheVariants.{Done, DoorFailed, Memory, Inside}
 use Rattle.msthost.specs.Link.{Answers, end_status, memory_reply}
 use Rattle.msthost.specs.Serving.{most_bytes, BringsAll, BringsSome, Takes, TakesPart, Served, IsAnswer, Exchanges, AnswersOpen, BreaksOpen, ExitsOpen, Exits, ShutsAfter, exit_of, WritesBy, IfDoorFailed}
 use Rattle.msthost.proofs.Links.{same_link}
@@ -28,9 +28,9 @@ exchanges a b c came left bytes written before after takes =
           ∙ ap (λ (xs : List ℕ). record a { current = Some (record { left = left; written = xs ++ bytes }) }) (sym texts);
     }
 
-answered : (table : Table) (a b c : Links) (came bytes : List ℕ) (status : ℕ) → BringsAll most_bytes came a b → Answers table came bytes status
-    → Takes bytes b c → AnswersOpen table status a c
-answered table a b c came bytes status brings answers takes = record {
+answered : (types : Catalog) (a b c : Links) (came bytes : List ℕ) (status : ℕ) → BringsAll most_bytes came a b → Answers types came bytes status
+    → Takes bytes b c → AnswersOpen types status a c
+answered types a b c came bytes status brings answers takes = record {
   came = came;
   left = brings.left;
   written = bytes;
@@ -40,9 +40,9 @@ answered table a b c came bytes status brings answers takes = record {
   answers = answers;
 }
 
-broken : (table : Table) (a b c : Links) (came bytes : List ℕ) (x : BringsAll most_bytes came a b) → IsAnswer table came x.left bytes
-    → TakesPart bytes b c → BreaksOpen table a c
-broken table a b c came bytes brings answer takes = record {
+broken : (types : Catalog) (a b c : Links) (came bytes : List ℕ) (x : BringsAll most_bytes came a b) → IsAnswer types came x.left bytes
+    → TakesPart bytes b c → BreaksOpen types a c
+broken types a b c came bytes brings answer takes = record {
   came = came;
   left = brings.left;
   written = takes.part;
@@ -50,69 +50,63 @@ broken table a b c came bytes brings answer takes = record {
   exchanges = exchanges a b c came brings.left takes.part brings.written brings.before brings.after takes.takes;
   at_most = brings.at_most;
   lacks = inr takes.lacks;
-  answer = subst (IsAnswer table came brings.left) takes.whole answer;
+  answer = subst (IsAnswer types came brings.left) takes.whole answer;
 }
 
 -- an answer is written, or a part of it
-writes_answer : (table : Table) (a b c : Links) (came bytes : List ℕ) (e : End) (exit : Exit) → BringsAll most_bytes came a b
-    → Answers table came bytes (end_status e) → WritesBy bytes (exit_of e) exit b c → ExitsOpen table exit a c
+writes_answer : (types : Catalog) (a b c : Links) (came bytes : List ℕ) (e : End) (exit : Exit) → BringsAll most_bytes came a b
+    → Answers types came bytes (end_status e) → WritesBy bytes (exit_of e) exit b c → ExitsOpen types exit a c
 unfolding answered broken
-writes_answer table a b c came bytes e DoorFailed brings answers writes =
-    broken table a b c came bytes brings (inr (inr (brings.all, (end_status e, answers)))) writes
-writes_answer table a b c came bytes end.Between Done brings answers writes = answered table a b c came bytes 0 brings answers writes.1
-writes_answer table a b c came bytes end.Inside Done brings answers writes = absurd (cc)
-writes_answer table a b c came bytes end.Between Inside brings answers writes = absurd (cc)
-writes_answer table a b c came bytes end.Inside Inside brings answers writes = answered table a b c came bytes 9 brings answers writes.1
-writes_answer table a b c came bytes end.Between Memory brings answers writes = absurd (cc)
-writes_answer table a b c came bytes end.Inside Memory brings answers writes = absurd (cc)
-writes_answer table a b c came bytes end.Between Usage brings answers writes = cc
-writes_answer table a b c came bytes end.Inside Usage brings answers writes = cc
-writes_answer table a b c came bytes end.Between Unread brings answers writes = cc
-writes_answer table a b c came bytes end.Inside Unread brings answers writes = cc
-writes_answer table a b c came bytes end.Between Unbuilt brings answers writes = cc
-writes_answer table a b c came bytes end.Inside Unbuilt brings answers writes = cc
+writes_answer types a b c came bytes e DoorFailed brings answers writes =
+    broken types a b c came bytes brings (inr (inr (brings.all, (end_status e, answers)))) writes
+writes_answer types a b c came bytes end.Between Done brings answers writes = answered types a b c came bytes 0 brings answers writes.1
+writes_answer types a b c came bytes end.Inside Done brings answers writes = absurd (cc)
+writes_answer types a b c came bytes end.Between Inside brings answers writes = absurd (cc)
+writes_answer types a b c came bytes end.Inside Inside brings answers writes = answered types a b c came bytes 9 brings answers writes.1
+writes_answer types a b c came bytes end.Between Memory brings answers writes = absurd (cc)
+writes_answer types a b c came bytes end.Inside Memory brings answers writes = absurd (cc)
+writes_answer types a b c came bytes end.Between exit brings answers writes = cc
+writes_answer types a b c came bytes end.Inside exit brings answers writes = cc
 
-pub writes-answer : (table : Table) (a b c : Option Links) (came bytes : List ℕ) (e : End) (exit : Exit) → BothTold (BringsAll most_bytes came) a b
-    → Answers table came bytes (end_status e) → BothTold (WritesBy bytes (exit_of e) exit) b c → BothTold (ExitsOpen table exit) a c
-writes-answer table None None None came bytes e exit brings answers writes = tt
-writes-answer table None None (Some c) came bytes e exit brings answers writes = absurd writes
-writes-answer table None (Some b) c came bytes e exit brings answers writes = absurd brings
-writes-answer table (Some a) None c came bytes e exit brings answers writes = absurd brings
-writes-answer table (Some a) (Some b) None came bytes e exit brings answers writes = absurd writes
-writes-answer table (Some a) (Some b) (Some c) came bytes e exit brings answers writes = writes_answer table a b c came bytes e exit brings answers writes
+pub writes-answer : (types : Catalog) (a b c : Option Links) (came bytes : List ℕ) (e : End) (exit : Exit) → BothTold (BringsAll most_bytes came) a b
+    → Answers types came bytes (end_status e) → BothTold (WritesBy bytes (exit_of e) exit) b c → BothTold (ExitsOpen types exit) a c
+writes-answer types None None None came bytes e exit brings answers writes = tt
+writes-answer types None None (Some c) came bytes e exit brings answers writes = absurd writes
+writes-answer types None (Some b) c came bytes e exit brings answers writes = absurd brings
+writes-answer types (Some a) None c came bytes e exit brings answers writes = absurd brings
+writes-answer types (Some a) (Some b) None came bytes e exit brings answers writes = absurd writes
+writes-answer types (Some a) (Some b) (Some c) came bytes e exit brings answers writes = writes_answer types a b c came bytes e exit brings answers writes
 
 -- the fixed reply is written, or a part of it
-writes_memory : (table : Table) (a b c : Links) (came : List ℕ) (exit : Exit) → BringsAll most_bytes came a b
-    → WritesBy memory_reply Memory exit b c → ExitsOpen table exit a c
+writes_memory : (types : Catalog) (a b c : Links) (came : List ℕ) (exit : Exit) → BringsAll most_bytes came a b
+    → WritesBy memory_reply Memory exit b c → ExitsOpen types exit a c
 unfolding broken
-writes_memory table a b c came DoorFailed brings writes = broken table a b c came memory_reply brings (inr (inl refl)) writes
-writes_memory table a b c came Memory brings writes = record {
+writes_memory types a b c came DoorFailed brings writes = broken types a b c came memory_reply brings (inr (inl refl)) writes
+writes_memory types a b c came Memory brings writes = record {
   came = came;
   left = brings.left;
   exchanges = exchanges a b c came brings.left memory_reply brings.written brings.before brings.after writes.1;
   at_most = brings.at_most;
 }
-writes_memory table a b c came Done brings writes = absurd (cc)
-writes_memory table a b c came Inside brings writes = absurd (cc)
-writes_memory table a b c came Usage brings writes = cc
-writes_memory table a b c came Unread brings writes = cc
-writes_memory table a b c came Unbuilt brings writes = cc
+writes_memory types a b c came Done brings writes = absurd (cc)
+writes_memory types a b c came Inside brings writes = absurd (cc)
+writes_memory types a b c came exit brings writes = cc
 
-pub writes-memory : (table : Table) (a b c : Option Links) (came : List ℕ) (exit : Exit) → BothTold (BringsAll most_bytes came) a b
-    → BothTold (WritesBy memory_reply Memory exit) b c → BothTold (ExitsOpen table exit) a c
-writes-memory table None None None came exit brings writes = tt
-writes-memory table None None (Some c) came exit brings writes = absurd writes
-writes-memory table None (Some b) c came exit brings writes = absurd brings
-writes-memory table (Some a) None c came exit brings writes = absurd brings
-writes-memory table (Some a) (Some b) None came exit brings writes = absurd writes
-writes-memory table (Some a) (Some b) (Some c) came exit brings writes = writes_memory table a b c came exit brings writes
+pub writes-memory : (types : Catalog) (a b c : Option Links) (came : List ℕ) (exit : Exit) → BothTold (BringsAll most_bytes came) a b
+    → BothTold (WritesBy memory_reply Memory exit) b c → BothTold (ExitsOpen types exit) a c
+writes-memory types None None None came exit brings writes = tt
+writes-memory types None None (Some c) came exit brings writes = absurd writes
+writes-memory types None (Some b) c came exit brings writes = absurd brings
+writes-memory types (Some a) None c came exit brings writes = absurd brings
+writes-memory types (Some a) (Some b) None came exit brings writes = absurd writes
+writes-memory types (Some a) (Some b) (Some c) came exit brings writes = writes_memory types a b c came exit brings writes
 
 -- reading failed, and nothing is written
-pub reads-some : (table : Table) (a b : Option Links) → BothTold (BringsSome most_bytes) a b → BothTold (ExitsOpen table DoorFailed) a b
-reads-some table None None brings = tt
-reads-some table None (Some b) brings = absurd brings
-reads-some table (Some a) None brings = absurd brings
-reads-some table (Some a) (Some b) brings = record {
+pub reads-some : (types : Catalog) (a b : Option Links) → BothTold (BringsSome most_bytes) a b → BothTold (ExitsOpen types DoorFailed) a b
+reads-some types None None brings = tt
+reads-some types None (Some b) brings = absurd brings
+reads-some types (Some a) None brings = absurd brings
+reads-some types (Some a) (Some b) brings = record {
   came = brings.came;
   left = brings.brings.left;
   written = [];
@@ -142,13 +136,13 @@ writes-part bytes exit (Some a) None takes = absurd takes
 writes-part bytes exit (Some a) (Some b) takes = takes
 
 -- a link that is shut after it was served
-pub shuts-after : (table : Table) (exit : Exit) (a b c : Option Links) → BothTold (ExitsOpen table exit) a b → c ≡ option_map after_shut b
-    → BothTold (ShutsAfter table exit) a c
-shuts-after table exit None None c exits shut = subst (λ d. BothTold (ShutsAfter table exit) None d) (sym shut) tt
-shuts-after table exit None (Some b) c exits shut = absurd exits
-shuts-after table exit (Some a) None c exits shut = absurd exits
-shuts-after table exit (Some a) (Some b) c exits shut =
-    subst (λ d. BothTold (ShutsAfter table exit) (Some a) d) (sym shut) (record { mid = b; exits = exits; shut = refl })
+pub shuts-after : (types : Catalog) (exit : Exit) (a b c : Option Links) → BothTold (ExitsOpen types exit) a b → c ≡ option_map after_shut b
+    → BothTold (ShutsAfter types exit) a c
+shuts-after types exit None None c exits shut = subst (λ d. BothTold (ShutsAfter types exit) None d) (sym shut) tt
+shuts-after types exit None (Some b) c exits shut = absurd exits
+shuts-after types exit (Some a) None c exits shut = absurd exits
+shuts-after types exit (Some a) (Some b) c exits shut =
+    subst (λ d. BothTold (ShutsAfter types exit) (Some a) d) (sym shut) (record { mid = b; exits = exits; shut = refl })
 
 -- the next link, from its beginning to its end
 served : (a b c d : Links) (came left written : List ℕ) → Accepts a b → Exchanges came left written b c → d ≡ after_shut c → Served came left written a d
@@ -166,9 +160,9 @@ served a b c d came left written accepts exchanges shut =
       none_open = ap (λ (l : Links). l.current) ended;
     }
 
-serves_next : (table : Table) (exit : Exit) (a b d : Links) → Accepts a b → ShutsAfter table exit b d → Exits table exit a d
+serves_next : (types : Catalog) (exit : Exit) (a b d : Links) → Accepts a b → ShutsAfter types exit b d → Exits types exit a d
 unfolding served
-serves_next table Done a b d accepts after = inr (record {
+serves_next types Done a b d accepts after = inr (record {
   came = after.exits.came;
   left = after.exits.left;
   written = after.exits.written;
@@ -177,7 +171,7 @@ serves_next table Done a b d accepts after = inr (record {
   all = after.exits.all;
   answers = after.exits.answers;
 })
-serves_next table Inside a b d accepts after = inr (record {
+serves_next types Inside a b d accepts after = inr (record {
   came = after.exits.came;
   left = after.exits.left;
   written = after.exits.written;
@@ -186,7 +180,7 @@ serves_next table Inside a b d accepts after = inr (record {
   all = after.exits.all;
   answers = after.exits.answers;
 })
-serves_next table DoorFailed a b d accepts after = inr (record {
+serves_next types DoorFailed a b d accepts after = inr (record {
   came = after.exits.came;
   left = after.exits.left;
   written = after.exits.written;
@@ -196,42 +190,40 @@ serves_next table DoorFailed a b d accepts after = inr (record {
   lacks = after.exits.lacks;
   answer = after.exits.answer;
 })
-serves_next table Memory a b d accepts after = inr (record {
+serves_next types Memory a b d accepts after = inr (record {
   came = after.exits.came;
   left = after.exits.left;
   served = served a b after.mid d _ _ _ accepts after.exits.exchanges after.shut;
   at_most = after.exits.at_most;
 })
-serves_next table Usage a b d accepts after = absurd after.exits
-serves_next table Unread a b d accepts after = absurd after.exits
-serves_next table Unbuilt a b d accepts after = absurd after.exits
+serves_next types exit a b d accepts after = absurd after.exits
 
-pub serves-next : (table : Table) (exit : Exit) (a b d : Option Links) → BothTold Accepts a b → BothTold (ShutsAfter table exit) b d → BothTold (Exits table exit) a d
-serves-next table exit None None None accepts after = tt
-serves-next table exit None None (Some d) accepts after = absurd after
-serves-next table exit None (Some b) d accepts after = absurd accepts
-serves-next table exit (Some a) None d accepts after = absurd accepts
-serves-next table exit (Some a) (Some b) None accepts after = absurd after
-serves-next table exit (Some a) (Some b) (Some d) accepts after = serves_next table exit a b d accepts after
+pub serves-next : (types : Catalog) (exit : Exit) (a b d : Option Links) → BothTold Accepts a b → BothTold (ShutsAfter types exit) b d → BothTold (Exits types exit) a d
+serves-next types exit None None None accepts after = tt
+serves-next types exit None None (Some d) accepts after = absurd after
+serves-next types exit None (Some b) d accepts after = absurd accepts
+serves-next types exit (Some a) None d accepts after = absurd accepts
+serves-next types exit (Some a) (Some b) None accepts after = absurd after
+serves-next types exit (Some a) (Some b) (Some d) accepts after = serves_next types exit a b d accepts after
 
 -- no link was left
-pub finds-none : (table : Table) (a b : Option Links) → BothTold FindsNone a b → BothTold (Exits table Done) a b
-finds-none table None None none = tt
-finds-none table None (Some b) none = absurd none
-finds-none table (Some a) None none = absurd none
-finds-none table (Some a) (Some b) none = inl (record { none_left = none.no_more; same = none.same }, refl)
+pub finds-none : (types : Catalog) (a b : Option Links) → BothTold FindsNone a b → BothTold (Exits types Done) a b
+finds-none types None None none = tt
+finds-none types None (Some b) none = absurd none
+finds-none types (Some a) None none = absurd none
+finds-none types (Some a) (Some b) none = inl (record { none_left = none.no_more; same = none.same }, refl)
 
 -- links that are as before
-pub stays-faulty : (table : Table) (a b : Option Links) → b ≡ a → BothTold (Exits table DoorFailed) a b
-stays-faulty table None b same = subst (λ d. BothTold (Exits table DoorFailed) None d) (sym same) tt
-stays-faulty table (Some a) b same = subst (λ d. BothTold (Exits table DoorFailed) (Some a) d) (sym same) (inl refl)
+pub stays-faulty : (types : Catalog) (a b : Option Links) → b ≡ a → BothTold (Exits types DoorFailed) a b
+stays-faulty types None b same = subst (λ d. BothTold (Exits types DoorFailed) None d) (sym same) tt
+stays-faulty types (Some a) b same = subst (λ d. BothTold (Exits types DoorFailed) (Some a) d) (sym same) (inl refl)
 
-pub stays-without_memory : (table : Table) (a : Option Links) → BothTold (Exits table Memory) a a
-stays-without_memory table None = tt
-stays-without_memory table (Some a) = inl refl
+pub stays-without_memory : (types : Catalog) (a : Option Links) → BothTold (Exits types Memory) a a
+stays-without_memory types None = tt
+stays-without_memory types (Some a) = inl refl
 
-pub exits-at : (table : Table) (exit : Exit) (a b c : Option Links) → b ≡ a → BothTold (Exits table exit) b c → BothTold (Exits table exit) a c
-exits-at table exit a b c same exits = subst (λ d. BothTold (Exits table exit) d c) same exits
+pub exits-at : (types : Catalog) (exit : Exit) (a b c : Option Links) → b ≡ a → BothTold (Exits types exit) b c → BothTold (Exits types exit) a c
+exits-at types exit a b c same exits = subst (λ d. BothTold (Exits types exit) d c) same exits
 
 -- a count that rose has risen over a longer time
 pub risen-longer : (a b c d : ℕ) → a ≤ b → c ≤ d → b ≤ c → HasRisen b c → HasRisen a d
@@ -240,9 +232,4 @@ risen-longer a b c d h k m (inr e) = elim (cases_lt a d) [ inl lt ↦ inl lt | i
 
 pub fails-longer : (exit : Exit) (a b c d : ℕ) → a ≤ b → c ≤ d → b ≤ c → IfDoorFailed exit (HasRisen b c) → IfDoorFailed exit (HasRisen a d)
 fails-longer DoorFailed a b c d h k m failed = risen-longer a b c d h k m failed
-fails-longer Done a b c d h k m failed = tt
-fails-longer Usage a b c d h k m failed = tt
-fails-longer Unread a b c d h k m failed = tt
-fails-longer Unbuilt a b c d h k m failed = tt
-fails-longer Memory a b c d h k m failed = tt
-fails-longer Inside a b c d h k m failed = tt
+fails-longer exit a b c d h k m failed = tt

@@ -1,10 +1,11 @@
 pub mod Completes
+pub mod Ends
 pub mod Exits
+pub mod Grammar
 pub mod Links
-pub mod ReadingFiles
-pub mod ReadingLaws
-pub mod ReadingSteps
 pub mod Root
 pub mod Row
 pub mod Runs
+pub mod Same
+pub mod Says
 pub mod Statuses

@@ -1,83 +1,42 @@
 -- From what a run loads and serves to the causes of its exit.
-use Rattle.std.proofs.Common.{◌≡◌, ℕ, ◌≤◌, List, [], ◌∷◌, length, Option, Some, None, Result, Ok, Err, refl, sym, subst, lit<}
-use Rattle.std.specs.Prelude.{Contains, IsSomeAnd, IfSome}
+use Rattle.std.proofs.Common.{◌≡◌, ℕ, List, Option, Some, None, refl, subst}
+use Rattle.std.specs.Prelude.{IsSomeAnd}
 use Rattle.edge_core.specs.Faults.{HasRisen}
 use Rattle.edge_core.specs.World.{file_of}
 use Rattle.edge_core.specs.Door.{Links, BothTold}
-use Rattle.type_core.specs.Table.{Table}
+use Rattle.type_core.specs.Sound.{IsSound}
+use Rattle.type_core.specs.Table.{Catalog}
+use Rattle.expr_core.specs.Schema.{Schema}
 use Rattle.msthost.specs.declared.exit.Exit.{Exit}
-use Rattle.msthost.specs.declared.exit.Exit.TheVariants.{Done, Usage, Unread, Unbuilt, DoorFailed, Memory, Inside}
-use Rattle.msthost.specs.Exit.{exit_code}
+use Rattle.msthost.specs.declared.exit.Exit.TheVariants.{Done, DoorFailed, Memory, Inside}
 use Rattle.msthost.specs.Serving.{Exits, IfDoorFailed, IsOfLink}
-use Rattle.msthost.specs.Run.{Files, IfFile, IsSchemaOf, IsNoSchema, Causes, IfUsage, IfBeforeDoor, Loads, TypesOf}
+use Rattle.msthost.specs.Words.{run}
+use Rattle.msthost.specs.Run.{Files, IfFile, IsFileOf, IsSchemaOf, Causes}
 
--- what holds of the bytes that were read holds of the file
-if_file : (files : Files) (name bytes : List ℕ) (P : List ℕ → Type 0) → IfSome files (λ fs. file_of fs name ≡ Some bytes) → P bytes → IfFile files name P
-if_file None name bytes P e p = tt
-if_file (Some fs) name bytes P e p = subst (λ o. IsSomeAnd o P) (sym e) p
+-- a fact of a file from another
+if_file : (files : Files) (name : List ℕ) (P Q : List ℕ → Type 0) → ((file : List ℕ) → P file → Q file) → IfFile files name P → IfFile files name Q
+if_file None name P Q f h = tt
+if_file (Some all) name P Q f h = by_found (file_of all name) h
+  where
+    by_found : (o : Option (List ℕ)) → IsSomeAnd o P → IsSomeAnd o Q
+    by_found None h = absurd h
+    by_found (Some file) h = f file h
 
-pub named-loads : (files : Files) (name bytes : List ℕ) (w v : ℕ) (r : Result Table Exit) → IfSome files (λ fs. file_of fs name ≡ Some bytes)
-    → length bytes ≤ 262144 → TypesOf bytes r → Loads files name w v r
-named-loads files name bytes w v (Ok table) e short p = if_file files name bytes (IsSchemaOf table) e (short, p)
-named-loads files name bytes w v (Err Unbuilt) e short p = if_file files name bytes IsNoSchema e (short, p)
-named-loads files name bytes w v (Err Memory) e short p = tt
-named-loads files name bytes w v (Err Unread) e short p = absurd p
-named-loads files name bytes w v (Err Done) e short p = absurd p
-named-loads files name bytes w v (Err Usage) e short p = absurd p
-named-loads files name bytes w v (Err Inside) e short p = absurd p
-named-loads files name bytes w v (Err DoorFailed) e short p = absurd p
+module _ (name : List ℕ) (files : Files) (types : Catalog) (w v : ℕ) (before after : Option Links) (d e : ℕ)
+    (sound : IsSound types) (file : IfFile files name (IsSchemaOf types)) where
+  serves_named : (exit : Exit) → BothTold (Exits types exit) before after → IsOfLink exit
+      → IfDoorFailed exit (HasRisen d e) → Causes (Some (run name)) files w v before after d e exit
+  serves_named Done exits link failed = record { types = types; sound = sound; schema = file; ends = exits }
+  serves_named Inside exits link failed = record { types = types; sound = sound; schema = file; ends = exits }
+  serves_named DoorFailed exits link failed = (failed, record { types = types; schema = file; faults = exits })
+  serves_named Memory exits link failed = (refl, exits)
+  serves_named exit exits link failed = absurd link
 
-serves_named : (name : List ℕ) (files : Files) (table : Table) (w v : ℕ) (before after : Option Links) (d e : ℕ) (exit : Exit)
-    → IfFile files name (IsSchemaOf table) → BothTold (Exits table exit) before after → IsOfLink exit
-    → IfDoorFailed exit (HasRisen d e) → Causes (Some name) files w v before after d e exit
-serves_named name files table w v before after d e Done schema exits link failed = (refl, record { table = table; schema = schema; ends = exits })
-serves_named name files table w v before after d e Inside schema exits link failed = (refl, record { table = table; schema = schema; ends = exits })
-serves_named name files table w v before after d e DoorFailed schema exits link failed =
-    (refl, failed, record { table = table; schema = schema; faults = exits })
-serves_named name files table w v before after d e Memory schema exits link failed = (refl, exits)
-serves_named name files table w v before after d e Usage schema exits link failed = absurd link
-serves_named name files table w v before after d e Unread schema exits link failed = absurd link
-serves_named name files table w v before after d e Unbuilt schema exits link failed = absurd link
-
-pub serves-causes : (word : Option (List ℕ)) (name : List ℕ) (files : Files) (table : Table) (w v : ℕ) (before after : Option Links) (d e : ℕ) (exit : Exit)
-    → Some name ≡ word → IfFile files name (IsSchemaOf table) → BothTold (Exits table exit) before after → IsOfLink exit
-    → IfDoorFailed exit (HasRisen d e) → Causes word files w v before after d e exit
-serves-causes word name files table w v before after d e exit named schema exits link failed =
-    subst (λ o. Causes o files w v before after d e exit) named (serves_named name files table w v before after d e exit schema exits link failed)
-
-pub past-door : (exit : Exit) (P : Type 0) → IsOfLink exit → IfBeforeDoor exit P
-past-door Done P link = tt
-past-door Inside P link = tt
-past-door DoorFailed P link = tt
-past-door Memory P link = tt
-past-door Usage P link = absurd link
-past-door Unread P link = absurd link
-past-door Unbuilt P link = absurd link
-
-pub past-words : (exit : Exit) (P : Type 0) → IsOfLink exit → IfUsage exit P
-past-words Done P link = tt
-past-words Inside P link = tt
-past-words DoorFailed P link = tt
-past-words Memory P link = tt
-past-words Usage P link = absurd link
-past-words Unread P link = tt
-past-words Unbuilt P link = tt
-
-pub past-words_loaded : (files : Files) (name : List ℕ) (w v : ℕ) (exit : Exit) (P : Type 0) → Loads files name w v (Err exit) → IfUsage exit P
-past-words_loaded files name w v Usage P loads = absurd loads
-past-words_loaded files name w v Unread P loads = tt
-past-words_loaded files name w v Unbuilt P loads = tt
-past-words_loaded files name w v Done P loads = tt
-past-words_loaded files name w v Inside P loads = tt
-past-words_loaded files name w v DoorFailed P loads = tt
-past-words_loaded files name w v Memory P loads = tt
-
--- the statuses that there are
-pub known-status : (exit : Exit) → Contains (0 ∷ 2 ∷ 3 ∷ 4 ∷ 6 ∷ 7 ∷ 9 ∷ []) (exit_code exit)
-known-status Done = (0, lit< tt, refl)
-known-status Usage = (1, lit< tt, refl)
-known-status Unread = (2, lit< tt, refl)
-known-status Unbuilt = (3, lit< tt, refl)
-known-status DoorFailed = (4, lit< tt, refl)
-known-status Memory = (5, lit< tt, refl)
-known-status Inside = (6, lit< tt, refl)
+pub serves-causes : (name : List ℕ) (files : Files) (schema : Schema) (served : Catalog) (w v : ℕ) (before after : Option Links) (d e : ℕ) (exit : Exit)
+    → IsSound schema.types → served ≡ schema.types → IfFile files name (IsFileOf schema) → BothTold (Exits served exit) before after → IsOfLink exit
+    → IfDoorFailed exit (HasRisen d e) → Causes (Some (run name)) files w v before after d e exit
+unfolding serves_named
+serves-causes name files schema served w v before after d e exit sound same file exits link failed =
+    serves_named name files schema.types w v before after d e sound
+    (if_file files name (IsFileOf schema) (IsSchemaOf schema.types) (λ bytes is. (schema, is, refl)) file)
+    exit (subst (λ types. BothTold (Exits types exit) before after) same exits) link failed

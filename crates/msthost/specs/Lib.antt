@@ -1,7 +1,6 @@
 pub mod Exit
 pub mod Link
-pub mod Reading
+pub mod Report
 pub mod Run
-pub mod Schema
 pub mod Serving
 pub mod Words

@@ -1,13 +1,13 @@
 -- What serving one link leaves of a door's links.
 use Rattle.std.specs.Prelude.{◌≡◌, ℕ, ◌<◌, ◌≤◌, ◌⊎◌, List, [], ◌∷◌, ◌++◌, length, Some, None}
 use Rattle.edge_core.specs.Door.{Links, after_shut}
-use Rattle.type_core.specs.Table.{Table}
+use Rattle.type_core.specs.Table.{Catalog}
 use Rattle.msthost.specs.Link.{Answers, memory_reply}
 use Rattle.msthost.specs.declared.answer.End.{End}
 use Rattle.msthost.specs.declared.answer.End.TheVariants.{Between}
 use Rattle.msthost.specs.declared.answer.End.TheVariants as end
 use Rattle.msthost.specs.declared.exit.Exit.{Exit}
-use Rattle.msthost.specs.declared.exit.Exit.TheVariants.{Done, Usage, Unread, Unbuilt, DoorFailed, Memory, Inside}
+use Rattle.msthost.specs.declared.exit.Exit.TheVariants.{Done, DoorFailed, Memory, Inside}
 
 -- the most bytes that are read of a link: one more than the longest request has
 abbrev pub most_bytes : ℕ
@@ -62,26 +62,26 @@ pub record NoLink (old new : Links) : Type 0 where
   pub same : new ≡ old
 
 -- the next link's bytes, to its end or to the most that are read, are answered with this status
-pub record AnswersLink (table : Table) (status : ℕ) (old new : Links) : Type 0 where
+pub record AnswersLink (types : Catalog) (status : ℕ) (old new : Links) : Type 0 where
   pub came : List ℕ
   pub left : List ℕ
   pub written : List ℕ
   pub served : Served came left written old new
   pub at_most : length came ≤ most_bytes
   pub all : (left ≡ []) ⊎ (length came ≡ most_bytes)
-  pub answers : Answers table came written status
+  pub answers : Answers types came written status
 
 -- serving ends with status 0 where no link is left, and with the status of the link that is answered
-abbrev pub EndsWith : Table → ℕ → Links → Links → Type 0
-EndsWith table status old new = (NoLink old new × (status ≡ 0)) ⊎ AnswersLink table status old new
+abbrev pub EndsWith : Catalog → ℕ → Links → Links → Type 0
+EndsWith types status old new = (NoLink old new × (status ≡ 0)) ⊎ AnswersLink types status old new
 
 -- what could have been written whole: nothing, the reply for want of memory, or the answer to the link's bytes
-abbrev pub IsAnswer : Table → List ℕ → List ℕ → List ℕ → Type 0
-IsAnswer table came left whole =
-    (whole ≡ []) ⊎ (whole ≡ memory_reply) ⊎ (((left ≡ []) ⊎ (length came ≡ most_bytes)) × ((status : ℕ) × Answers table came whole status))
+abbrev pub IsAnswer : Catalog → List ℕ → List ℕ → List ℕ → Type 0
+IsAnswer types came left whole =
+    (whole ≡ []) ⊎ (whole ≡ memory_reply) ⊎ (((left ≡ []) ⊎ (length came ≡ most_bytes)) × ((status : ℕ) × Answers types came whole status))
 
 -- the next link is broken off: what was written to it is nothing, or the beginning of an answer and not all of it
-pub record BreaksOff (table : Table) (old new : Links) : Type 0 where
+pub record BreaksOff (types : Catalog) (old new : Links) : Type 0 where
   pub came : List ℕ
   pub left : List ℕ
   pub written : List ℕ
@@ -89,11 +89,11 @@ pub record BreaksOff (table : Table) (old new : Links) : Type 0 where
   pub served : Served came left written old new
   pub at_most : length came ≤ most_bytes
   pub lacks : (written ≡ []) ⊎ (0 < length unwritten)
-  pub answer : IsAnswer table came left (written ++ unwritten)
+  pub answer : IsAnswer types came left (written ++ unwritten)
 
 -- a door fault leaves the links as they were, or breaks the next one off
-abbrev pub Faults : Table → Links → Links → Type 0
-Faults table old new = (new ≡ old) ⊎ BreaksOff table old new
+abbrev pub Faults : Catalog → Links → Links → Type 0
+Faults types old new = (new ≡ old) ⊎ BreaksOff types old new
 
 -- want of memory leaves the links as they were, or the next one gets the fixed reply
 pub record RunsOut (old new : Links) : Type 0 where
@@ -112,17 +112,17 @@ pub record Exchanges (came left written : List ℕ) (old new : Links) : Type 0 w
   pub after : new ≡ record old { current = Some (record { left = left; written = earlier ++ written }) }
 
 -- the open link's bytes are answered with this status
-pub record AnswersOpen (table : Table) (status : ℕ) (old new : Links) : Type 0 where
+pub record AnswersOpen (types : Catalog) (status : ℕ) (old new : Links) : Type 0 where
   pub came : List ℕ
   pub left : List ℕ
   pub written : List ℕ
   pub exchanges : Exchanges came left written old new
   pub at_most : length came ≤ most_bytes
   pub all : (left ≡ []) ⊎ (length came ≡ most_bytes)
-  pub answers : Answers table came written status
+  pub answers : Answers types came written status
 
 -- the open link is broken off
-pub record BreaksOpen (table : Table) (old new : Links) : Type 0 where
+pub record BreaksOpen (types : Catalog) (old new : Links) : Type 0 where
   pub came : List ℕ
   pub left : List ℕ
   pub written : List ℕ
@@ -130,7 +130,7 @@ pub record BreaksOpen (table : Table) (old new : Links) : Type 0 where
   pub exchanges : Exchanges came left written old new
   pub at_most : length came ≤ most_bytes
   pub lacks : (written ≡ []) ⊎ (0 < length unwritten)
-  pub answer : IsAnswer table came left (written ++ unwritten)
+  pub answer : IsAnswer types came left (written ++ unwritten)
 
 -- the open link gets the fixed reply
 pub record RunsOutOpen (old new : Links) : Type 0 where
@@ -140,28 +140,24 @@ pub record RunsOutOpen (old new : Links) : Type 0 where
   pub at_most : length came ≤ most_bytes
 
 -- what an exit says of the open link, and of a door that is served; for private clauses
-abbrev pub ExitsOpen : Table → Exit → Links → Links → Type 0
-ExitsOpen table Done = AnswersOpen table 0
-ExitsOpen table Inside = AnswersOpen table 9
-ExitsOpen table DoorFailed = BreaksOpen table
-ExitsOpen table Memory = RunsOutOpen
-ExitsOpen table Usage = λ old new. ⊥
-ExitsOpen table Unread = λ old new. ⊥
-ExitsOpen table Unbuilt = λ old new. ⊥
+abbrev pub ExitsOpen : Catalog → Exit → Links → Links → Type 0
+ExitsOpen types Done = AnswersOpen types 0
+ExitsOpen types Inside = AnswersOpen types 9
+ExitsOpen types DoorFailed = BreaksOpen types
+ExitsOpen types Memory = RunsOutOpen
+ExitsOpen types _ = λ old new. ⊥
 
-abbrev pub Exits : Table → Exit → Links → Links → Type 0
-Exits table Done = EndsWith table 0
-Exits table Inside = EndsWith table 9
-Exits table DoorFailed = Faults table
-Exits table Memory = LacksMemory
-Exits table Usage = λ old new. ⊥
-Exits table Unread = λ old new. ⊥
-Exits table Unbuilt = λ old new. ⊥
+abbrev pub Exits : Catalog → Exit → Links → Links → Type 0
+Exits types Done = EndsWith types 0
+Exits types Inside = EndsWith types 9
+Exits types DoorFailed = Faults types
+Exits types Memory = LacksMemory
+Exits types _ = λ old new. ⊥
 
 -- the same once the link is shut
-pub record ShutsAfter (table : Table) (exit : Exit) (old new : Links) : Type 0 where
+pub record ShutsAfter (types : Catalog) (exit : Exit) (old new : Links) : Type 0 where
   pub mid : Links
-  pub exits : ExitsOpen table exit old mid
+  pub exits : ExitsOpen types exit old mid
   pub shut : new ≡ after_shut mid
 
 -- how a link ends that was answered
@@ -185,6 +181,4 @@ IsOfLink Done = Unit {0}
 IsOfLink Inside = Unit {0}
 IsOfLink DoorFailed = Unit {0}
 IsOfLink Memory = Unit {0}
-IsOfLink Usage = ⊥
-IsOfLink Unread = ⊥
-IsOfLink Unbuilt = ⊥
+IsOfLink _ = ⊥

@@ -3,13 +3,12 @@ ghost use Rattle.std.specs.Prelude.{◌≡◌, ◌<◌, [], ◌∷◌, length, B
 ghost use Rattle.snap_core.specs.Value.{Value, text, IsPlain};
 ghost use Rattle.snap_core.specs.View.{view};
 ghost use Rattle.pointer_core.specs.Path.{printed};
-ghost use Rattle.pointer_core.specs.Rule.{rule_name, rule_status};
+ghost use Rattle.pointer_core.specs.Rule.{rule_name};
 ghost use Rattle.http.specs.StatusCode.{IsStatusCode, reason_phrase};
 ghost use Rattle.http_front.specs.Reply.{reply_bytes};
 ghost use Rattle.snap_json.specs.Printing.{json_text};
 ghost use Rattle.snap_json.specs.Reading.{reading};
 ghost use Rattle.type_core.specs.Making.{making};
-ghost use Rattle.msthost.specs.Schema as schema;
 ghost use Rattle.msthost.specs.Link as link;
 
 use http_front::{Next, next_request, print_reply};
@@ -105,7 +104,13 @@ fn body_reply(alloc: Global, types: &Types, body: &[u8]) -> Result<Bytes, AllocE
         Ok(given) => value_reply(alloc, types, &given),
         Err(ReadError::Memory) => Err(AllocError),
         Err(ReadError::Syntax) => rule_reply(alloc, false, &Rule::Syntax),
-        Err(ReadError::Whole { .. }) => rule_reply(alloc, false, &Rule::Syntax),
+        Err(ReadError::Whole { path }) => refusal_reply(
+            alloc,
+            &Refusal {
+                path,
+                rule: Rule::Whole,
+            },
+        ),
     }
 }
 
@@ -123,7 +128,7 @@ fn value_reply(alloc: Global, types: &Types, given: &Snap) -> Result<Bytes, Allo
 
 // The type that is the root's model.
 fn root_type(types: &Types) -> TypeNo
-    ensures known { result.0 < length types.now.shapes }
+    ensures known { result.0 < length types.now.table.shapes }
     ensures same { (v : Value) → making types.now result.0 (Some v) ≡ making types.now (link.root_type types.now) (Some v) }
 {
     types.model_type(types.root())
@@ -150,8 +155,7 @@ fn rule_reply(alloc: Global, close: bool, rule: &Rule) -> Result<Bytes, AllocErr
 // The reply that names a rule and a place.
 #[tactic(auto, using(crate::proofs::Statuses::status_is_code))]
 fn refusal_reply(alloc: Global, refusal: &Refusal) -> Result<Bytes, AllocError>
-    ensures { IfOk result (λ bytes. bytes
-        ≡ reply_bytes (rule_status refusal.now.rule) false (link.place_body (rule_name refusal.now.rule) (printed refusal.now.path))) }
+    ensures { IfOk result (λ bytes. bytes ≡ link.place_reply refusal.now.rule refusal.now.path) }
 {
     let body = place_body(alloc, refusal)?;
     reply(alloc, refusal.rule.status(), false, &body)
@@ -168,14 +172,14 @@ fn reply(alloc: Global, status: u16, close: bool, body: &Snap) -> Result<Bytes, 
 }
 
 fn rule_body(alloc: Global, rule: &Rule) -> Result<Snap, AllocError>
-    ensures { IfOk result (λ body. view body ≡ schema.only (codes "error") (text (rule_name rule.now))) }
+    ensures { IfOk result (λ body. view body ≡ link.only (codes "error") (text (rule_name rule.now))) }
 {
     let name = Txt::copy(alloc, rule.name())?;
     only(alloc, "error", Snap::Text(name))
 }
 
 fn place_body(alloc: Global, refusal: &Refusal) -> Result<Snap, AllocError>
-    ensures { IfOk result (λ body. view body ≡ schema.record_of ((codes "error", text (rule_name refusal.now.rule))
+    ensures { IfOk result (λ body. view body ≡ link.record_of ((codes "error", text (rule_name refusal.now.rule))
         ∷ (codes "path", text (printed refusal.now.path)) ∷ [])) }
 {
     let path = refusal.path.print(alloc)?;
@@ -197,7 +201,7 @@ fn text_field(alloc: Global, key: &str, shown: &str) -> Result<Field, AllocError
 
 // A record of one entry.
 fn only(alloc: Global, key: &str, value: Snap) -> Result<Snap, AllocError>
-    ensures { IfOk result (λ made. view made ≡ schema.only key.now (view value)) }
+    ensures { IfOk result (λ made. view made ≡ link.only key.now (view value)) }
 {
     let mut fields = Parts::new(alloc);
     fields.push(Field {

@@ -1,125 +1,150 @@
 //! The top call.
-ghost use Rattle.std.specs.Prelude.{◌≡◌, ◌≤◌, ◌↔◌, ◌⊎◌, ◌∷◌, [], List, ℕ, false, Some, None, Contains, option_map};
+ghost use Rattle.std.specs.Prelude.{◌≡◌, ◌≤◌, ◌↔◌, ◌⊎◌, ◌∷◌, [], List, ℕ, false, Option, Some, None, Contains, codes, option_map};
 ghost use Rattle.edge_core.specs.Faults.{HasRisen};
-ghost use Rattle.edge_core.specs.Door.{BothTold};
-ghost use Rattle.msthost.specs.Words.{schema_word};
+ghost use Rattle.edge_core.specs.Door.{BothTold, Links};
+ghost use Rattle.msthost.specs.Words.{command_of, words_of, seen};
+ghost use Rattle.msthost.specs.Words as commands;
 ghost use Rattle.msthost.specs.Run as runs;
+ghost use Rattle.msthost.specs.Report as reports;
 ghost use Rattle.msthost.specs.Serving.{LacksMemory};
 ghost use Rattle.msthost.specs.Link.{reading_reply};
 ghost use Rattle.snap_json.specs.Reading.{reading};
-ghost use Rattle.type_core.specs.Table.{Table};
+ghost use Rattle.type_core.specs.Table.{Catalog};
 
 use crate::exit::Exit;
-use crate::schema::{SchemaError, read_schema};
+use crate::load::load;
+use crate::report::report;
 use crate::serve::serve;
-use edge_core::{Door, EdgeError, World};
+use crate::words::{Command, command_of};
+use edge_core::{Door, World};
 use snap_core::Txt;
 use std::alloc::Global;
-use type_core::Types;
-
-/// The longest schema file that is read, in bytes.
-const MOST_FILE_BYTES: usize = 262_144;
 
 /// Runs the program on these words, in this world and at this door, and answers its exit status.
 ///
-/// `run SCHEMA` reads the schema file and serves one link: the request on it is answered. Statuses:
-/// 0 after a reply, or where no link or no byte came; 2 for other words; 3 where the file isn't
-/// read; 4 where it is no schema; 6 where the link failed; 7 where memory ran out, which may happen
-/// at any time; 9 where the input ends inside a request.
+/// `check SCHEMA` reads the schema file and tells whether it is a schema. `run SCHEMA` reads it and
+/// serves one link: the request on it is answered. Statuses: 0 where all went well; 2 for other
+/// words; 3 where the file isn't read; 4 where it is no schema; 6 where the link failed; 7 where
+/// memory ran out, which may happen at any time; 9 where the input ends inside a request; 10 where
+/// what is to be told couldn't be written.
 pub fn host<W: World, D: Door>(alloc: Global, words: &[Txt], world: &mut W, door: &mut D) -> u8
     requires none_open { D.is_open door.old ≡ false }
-    // 2 exactly where the words aren't in the grammar.
-    ensures usage { (result ≡ 2) ↔ (schema_word words.now ≡ None) }
-    // 3 only where the world failed at the file, or exactly where the file is too long.
+    // The run comes to an exit that has its cause. Then the exit is told and gives its status, or a
+    // writing failed, and the status is 10. The clauses below say what follows.
+    ensures ends { runs.Ends (command_of words.now) (W.files world.old) (D.links door.old) (D.links door.new) (D.fault_count door.old) (D.fault_count door.new) result
+        (record { out = W.out world.old; err = W.err world.old; faults = W.fault_count world.old })
+        (record { out = W.out world.new; err = W.err world.new; faults = W.fault_count world.new }) }
+    ensures grammar { (command : commands.Command) → (command_of words.now ≡ Some command) ↔ (words.now ≡ words_of command) }
+    ensures statuses { Contains (0 ∷ 2 ∷ 3 ∷ 4 ∷ 6 ∷ 7 ∷ 9 ∷ 10 ∷ []) result }
+
+    // 2 only where the words are no command, and such words come to nothing else, unless it can't be told.
+    ensures usage { result ≡ 2 → command_of words.now ≡ None }
+    ensures no_command { command_of words.now ≡ None → (result ≡ 2) ⊎ (result ≡ 10) }
+    // 3 only where the world counted a fault, or the file is too long.
     ensures unread { result ≡ 3 → HasRisen (W.fault_count world.old) (W.fault_count world.new)
-        ⊎ runs.IfSchemaFile (W.files world.old) (schema_word words.now) runs.IsTooLong }
-    // 4 exactly where the file is no schema that is built.
-    ensures unbuilt { result ≡ 4 → runs.IfSchemaFile (W.files world.old) (schema_word words.now) runs.IsNoSchema }
-    // 2 comes before anything is touched, 3 and 4 before the door is.
-    ensures world_untouched { result ≡ 2 → world.new ≡ world.old }
+        ⊎ runs.IfCommandFile (W.files world.old) (command_of words.now) runs.IsTooLong }
+    // 4 only where the file is short enough, and is no JSON or has a first fault, and the message says which.
+    ensures refused { result ≡ 4 → runs.Refuses (command_of words.now) (W.files world.old) (W.err world.old) (W.err world.new) }
+    // The door is touched by no check, and by no run that ends with 2, 3 or 4.
     ensures door_untouched { ((result ≡ 2) ⊎ (result ≡ 3) ⊎ (result ≡ 4)) → door.new ≡ door.old }
+    ensures check_untouched { runs.IsCheck (command_of words.now) → door.new ≡ door.old }
 
-    // 0 and 9 exactly as the bytes that came say; what is written is the answer to them.
-    ensures done { result ≡ 0 → runs.Answered (schema_word words.now) (W.files world.old) 0 (D.links door.old) (D.links door.new) }
-    ensures inside { result ≡ 9 → runs.Answered (schema_word words.now) (W.files world.old) 9 (D.links door.old) (D.links door.new) }
-    // 6 only where the door's count rose; what was written is the beginning of an answer.
+    // 0 of a check only where the file is a schema.
+    ensures checked { runs.IsCheck (command_of words.now) → result ≡ 0 → runs.IfCheckFile (W.files world.old) (command_of words.now) runs.IsSchemaFile }
+    // 0 and 9 of a run exactly as the bytes that came say; what is written is the answer to them.
+    ensures done { runs.IsRun (command_of words.now) → result ≡ 0 → runs.Answered (command_of words.now) (W.files world.old) 0 (D.links door.old) (D.links door.new) }
+    ensures inside { result ≡ 9 → runs.Answered (command_of words.now) (W.files world.old) 9 (D.links door.old) (D.links door.new) }
+    // 6 only where the door's count rose; what was written was the beginning of an answer.
     ensures door_failed { result ≡ 6 → HasRisen (D.fault_count door.old) (D.fault_count door.new) }
-    ensures broken { result ≡ 6 → runs.Broken (schema_word words.now) (W.files world.old) (D.links door.old) (D.links door.new) }
-    // 7 is free: nothing is written, or the fixed reply.
+    ensures broken { result ≡ 6 → runs.Broken (command_of words.now) (W.files world.old) (D.links door.old) (D.links door.new) }
+    // 7 is free: nothing is written to a link, or the fixed reply.
     ensures memory { result ≡ 7 → BothTold LacksMemory (D.links door.old) (D.links door.new) }
-    ensures statuses { Contains (0 ∷ 2 ∷ 3 ∷ 4 ∷ 6 ∷ 7 ∷ 9 ∷ []) result }
 
-    // A schema that is read, one whole request and no fault: it gets its reply, or memory ran out.
-    ensures complete { (table : Table) (body : List ℕ) → runs.RequestIsGiven (schema_word words.now) (W.files world.old) (D.links door.old) table body
+    // Unless the status is 10, standard error and output got just what an exit of this status tells:
+    // of a check that ends with 0 a line `ok`, and of a run that does nothing.
+    ensures told { ¬ (result ≡ 10) → (exit : Exit) × reports.Tells (command_of words.now) exit result
+        (record { out = W.out world.old; err = W.err world.old; faults = W.fault_count world.old })
+        (record { out = W.out world.new; err = W.err world.new; faults = W.fault_count world.new }) }
+    ensures ok { runs.IsCheck (command_of words.now) → result ≡ 0 → (W.err world.new ≡ W.err world.old) × reports.Gets (codes "ok\n") (W.out world.old) (W.out world.new) }
+    ensures silent { runs.IsRun (command_of words.now) → result ≡ 0 → (W.err world.new ≡ W.err world.old) × (W.out world.new ≡ W.out world.old) }
+    // 10 only where the world counted a fault; the run itself came to an exit that has its cause.
+    ensures unwritten { result ≡ 10 → HasRisen (W.fault_count world.old) (W.fault_count world.new) × ((exit : Exit) × runs.Causes (command_of words.now) (W.files world.old)
+        (W.fault_count world.old) (W.fault_count world.new) (D.links door.old) (D.links door.new) (D.fault_count door.old) (D.fault_count door.new) exit) }
+
+    // A check of a schema with no fault of the world's: 0, or memory ran out.
+    ensures checks { runs.SchemaIsGiven (command_of words.now) (W.files world.old) → ¬ (HasRisen (W.fault_count world.old) (W.fault_count world.new))
+        → (result ≡ 7) ⊎ (result ≡ 0) }
+    // A run by a schema, with one whole request and no fault: it gets its reply, or memory ran out.
+    ensures complete { (types : Catalog) (body : List ℕ) → runs.RequestIsGiven (command_of words.now) (W.files world.old) (D.links door.old) types body
         → ¬ (HasRisen (W.fault_count world.old) (W.fault_count world.new)) → ¬ (HasRisen (D.fault_count door.old) (D.fault_count door.new))
-        → (result ≡ 7) ⊎ ((result ≡ 0) × runs.IsReplied (reading_reply table (reading body)) (D.links door.old) (D.links door.new)) }
+        → (result ≡ 7) ⊎ ((result ≡ 0) × runs.IsReplied (reading_reply types (reading body)) (D.links door.old) (D.links door.new)) }
 
+    ensures none_open { D.is_open door.new ≡ false }
+    ensures door_count { D.fault_count door.old ≤ D.fault_count door.new }
+    ensures files { W.files world.new ≡ W.files world.old }
+    ensures world_count { W.fault_count world.old ≤ W.fault_count world.new }
+{
+    let command = command_of(words);
+    let exit = run(alloc, command, world, door);
+    report(world, command, &exit)
+}
+
+// Runs a command, and answers how the program ends.
+fn run<W: World, D: Door>(
+    alloc: Global,
+    command: Option<Command>,
+    world: &mut W,
+    door: &mut D,
+) -> Exit
+    requires none_open { D.is_open door.old ≡ false }
+    ensures causes { runs.Causes (option_map seen command.entry) (W.files world.old) (W.fault_count world.old) (W.fault_count world.new)
+        (D.links door.old) (D.links door.new) (D.fault_count door.old) (D.fault_count door.new) result }
+    ensures door_untouched { runs.IfBeforeDoor result (door.new ≡ door.old) }
+    ensures check_untouched { runs.IsCheck (option_map seen command.entry) → door.new ≡ door.old }
     ensures none_open { D.is_open door.new ≡ false }
     ensures door_count { D.fault_count door.old ≤ D.fault_count door.new }
     ensures files { W.files world.new ≡ W.files world.old }
     ensures out { W.out world.new ≡ W.out world.old }
     ensures err { W.err world.new ≡ W.err world.old }
-    ensures world_count { W.fault_count world.old ≤ W.fault_count world.new }
+    ensures count { W.fault_count world.old ≤ W.fault_count world.new }
 {
-    run(alloc, words, world, door).code()
+    match command {
+        None => Exit::Usage,
+        Some(Command::Check(name)) => check(alloc, world, name),
+        Some(Command::Run(name)) => serve_by(alloc, world, name, door),
+    }
 }
 
-// The same with the exit's meaning.
-fn run<W: World, D: Door>(alloc: Global, words: &[Txt], world: &mut W, door: &mut D) -> Exit
+// Checks a schema file.
+fn check<W: World>(alloc: Global, world: &mut W, name: &str) -> Exit
+    ensures causes { (links : Option Links) (d : ℕ) → runs.Causes (Some (commands.check name.now)) (W.files world.old) (W.fault_count world.old) (W.fault_count world.new)
+        links links d d result }
+    ensures files { W.files world.new ≡ W.files world.old }
+    ensures out { W.out world.new ≡ W.out world.old }
+    ensures err { W.err world.new ≡ W.err world.old }
+    ensures count { W.fault_count world.old ≤ W.fault_count world.new }
+{
+    match load(alloc, world, name) {
+        Ok(_) => Exit::Checked,
+        Err(exit) => exit,
+    }
+}
+
+// Serves one link by a schema file.
+fn serve_by<W: World, D: Door>(alloc: Global, world: &mut W, name: &str, door: &mut D) -> Exit
     requires none_open { D.is_open door.old ≡ false }
-    ensures causes { runs.Causes (schema_word words.now) (W.files world.old) (W.fault_count world.old) (W.fault_count world.new)
+    ensures causes { runs.Causes (Some (commands.run name.now)) (W.files world.old) (W.fault_count world.old) (W.fault_count world.new)
         (D.links door.old) (D.links door.new) (D.fault_count door.old) (D.fault_count door.new) result }
-    ensures world_untouched { runs.IfUsage result (world.new ≡ world.old) }
     ensures door_untouched { runs.IfBeforeDoor result (door.new ≡ door.old) }
     ensures none_open { D.is_open door.new ≡ false }
     ensures door_count { D.fault_count door.old ≤ D.fault_count door.new }
     ensures files { W.files world.new ≡ W.files world.old }
     ensures out { W.out world.new ≡ W.out world.old }
     ensures err { W.err world.new ≡ W.err world.old }
-    ensures world_count { W.fault_count world.old ≤ W.fault_count world.new }
-{
-    let Some(name) = schema_name(words) else {
-        return Exit::Usage;
-    };
-    match load(alloc, world, name) {
-        Ok(types) => serve(alloc, &types, door),
-        Err(exit) => exit,
-    }
-}
-
-// The schema file's name, where the words are in the grammar.
-fn schema_name(words: &[Txt]) -> Option<&str>
-    ensures { option_map (λ name. name.now) result ≡ schema_word words.now }
-{
-    match words {
-        [command, name] if command.text() == "run" => Some(name.text()),
-        _ => None,
-    }
-}
-
-// Reads the types of a schema file.
-fn load<W: World>(alloc: Global, world: &mut W, name: &str) -> Result<Types, Exit>
-    ensures loads { runs.Loads (W.files world.old) name.now (W.fault_count world.old) (W.fault_count world.new) result }
-    ensures files { W.files world.new ≡ W.files world.old }
-    ensures out { W.out world.new ≡ W.out world.old }
-    ensures err { W.err world.new ≡ W.err world.old }
     ensures count { W.fault_count world.old ≤ W.fault_count world.new }
 {
-    match world.read_file(alloc, name, MOST_FILE_BYTES) {
-        Ok(file) => types_in(alloc, file.as_slice()),
-        Err(EdgeError::Memory) => Err(Exit::Memory),
-        Err(EdgeError::Failed) => Err(Exit::Unread),
-        Err(EdgeError::TooLong) => Err(Exit::Unread),
-    }
-}
-
-// The types that a file's bytes spell.
-fn types_in(alloc: Global, file: &[u8]) -> Result<Types, Exit>
-    ensures { runs.TypesOf file.now result }
-{
-    match read_schema(alloc, file) {
-        Ok(types) => Ok(types),
-        Err(SchemaError::Memory) => Err(Exit::Memory),
-        Err(SchemaError::Refused) => Err(Exit::Unbuilt),
+    match load(alloc, world, name) {
+        Ok(schema) => serve(alloc, schema.types(), door),
+        Err(exit) => exit,
     }
 }

@@ -5,12 +5,15 @@ mod answer;
 mod exit;
 mod host;
 mod link;
-mod schema;
+mod load;
+mod report;
 mod serve;
 #[cfg(test)]
 mod tests;
+mod words;
 
 use crate::exit::Exit;
+use crate::report::report;
 use edge_core::{RealDoor, RealWorld};
 use list_core::Parts;
 use snap_core::Txt;
@@ -22,15 +25,15 @@ use std::{env, io};
 fn main(rt: HostRuntime) -> ExitCode {
     let mut world = RealWorld::new(rt, rt.stdout(), rt.stderr());
     let mut door = RealDoor::new(rt, rt.stdin(), rt.stdout());
-    let status = match words(&rt) {
+    let status = match given_words(&rt) {
         Ok(words) => host::host(rt.alloc(), words.as_slice(), &mut world, &mut door),
-        Err(exit) => exit.code(),
+        Err(exit) => report(&mut world, None, &exit),
     };
     ExitCode::from(status)
 }
 
 // The words behind the program's name. Words that aren't UTF-8 aren't in the grammar.
-fn words<R: Env + AllocGlobal>(rt: &R) -> Result<Parts<Txt>, Exit> {
+fn given_words<R: Env + AllocGlobal>(rt: &R) -> Result<Parts<Txt>, Exit> {
     match env::args(rt) {
         Ok(args) => copied(rt.alloc(), args).map_err(|_| Exit::Memory),
         Err(error) if error.kind() == io::ErrorKind::InvalidData => Err(Exit::Usage),

@@ -1,0 +1,55 @@
+//! From the name of a schema file to the schema.
+ghost use Rattle.std.specs.Prelude.{◌≡◌, ◌≤◌};
+ghost use Rattle.pointer_core.specs.Path.{printed};
+ghost use Rattle.msthost.specs.Run as runs;
+
+use crate::exit::Exit;
+use edge_core::{EdgeError, World};
+use expr_core::Schema;
+use pointer_core::{Pointer, SchemaRule};
+use schema_read::{SchemaError, read_schema};
+use std::alloc::Global;
+
+/// The longest schema file that is read, in bytes.
+const MOST_FILE_BYTES: usize = 262_144;
+
+/// Reads a schema file, or says how the program ends without one.
+pub fn load<W: World>(alloc: Global, world: &mut W, name: &str) -> Result<Schema, Exit>
+    ensures loads { runs.Loads (W.files world.old) name.now (W.fault_count world.old) (W.fault_count world.new) result }
+    ensures files { W.files world.new ≡ W.files world.old }
+    ensures out { W.out world.new ≡ W.out world.old }
+    ensures err { W.err world.new ≡ W.err world.old }
+    ensures count { W.fault_count world.old ≤ W.fault_count world.new }
+{
+    match world.read_file(alloc, name, MOST_FILE_BYTES) {
+        Ok(file) => schema_in(alloc, file.as_slice()),
+        Err(EdgeError::Memory) => Err(Exit::Memory),
+        Err(EdgeError::Failed) => Err(Exit::Unread),
+        Err(EdgeError::TooLong) => Err(Exit::Unread),
+    }
+}
+
+// The schema that a file's bytes spell.
+fn schema_in(alloc: Global, file: &[u8]) -> Result<Schema, Exit>
+    ensures { runs.SchemaOf file.now result }
+{
+    match read_schema(alloc, file) {
+        Ok(schema) => Ok(schema),
+        Err(SchemaError::Memory) => Err(Exit::Memory),
+        Err(SchemaError::Syntax) => Err(Exit::Syntax),
+        Err(SchemaError::Refused { pointer, rule }) => Err(refusal(alloc, &pointer, rule)),
+    }
+}
+
+// The end at a fault of a schema file.
+fn refusal(alloc: Global, pointer: &Pointer, rule: SchemaRule) -> Exit
+    ensures { runs.IsRefusal pointer.now rule result }
+{
+    match pointer.print(alloc) {
+        Ok(printed) => Exit::Refused {
+            pointer: printed,
+            rule,
+        },
+        Err(_) => Exit::Memory,
+    }
+}
