@@ -3,7 +3,5 @@
 #![tactic(auto)]
 
 mod parts;
-#[cfg(test)]
-mod tests;
 
 pub use parts::Parts;

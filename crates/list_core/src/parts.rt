@@ -38,24 +38,41 @@ impl<T> Parts<T> {
         Parts { items }
     }
 
+    /// The items as a `Vec`, which takes them over.
+    pub fn into_vec(self) -> Vec<T>
+        ensures { result.items ≡ self }
+    {
+        let Parts { items } = self;
+        items
+    }
+
+    /// Where the list takes its memory from.
+    pub fn allocator(&self) -> Global {
+        *self.items.allocator()
+    }
+
+    /// The items as a slice.
     pub fn as_slice(&self) -> &[T]
         ensures { result.now ≡ self.now }
     {
         self.items.as_slice()
     }
 
+    /// How many items there are.
     pub fn len(&self) -> usize
         ensures { result ≡ length self.now }
     {
         self.items.len()
     }
 
+    /// Whether there are none.
     pub fn is_empty(&self) -> bool
         ensures { IsTrue result ↔ (self.now ≡ []) }
     {
         self.items.is_empty()
     }
 
+    /// The item at an index, or none where there are not so many.
     pub fn get(&self, at: usize) -> Option<&T>
         ensures { option_copied result ≡ slice_get self.now at }
     {
@@ -64,7 +81,7 @@ impl<T> Parts<T> {
 }
 
 impl<T: Drop> Parts<T> {
-    /// Adds a part at the end.
+    /// Adds a part at the end. It is gone where memory runs out.
     pub fn push(&mut self, part: T) -> Result<(), AllocError>
         ensures ok { OnOk result (self.new ≡ self.old ++ part ∷ []) }
         ensures err { OnErr result (self.new ≡ self.old) }
@@ -73,7 +90,7 @@ impl<T: Drop> Parts<T> {
         Ok(())
     }
 
-    /// Adds a part before the first one.
+    /// Adds a part before the first one. It is gone where memory runs out.
     pub fn push_front(&mut self, part: T) -> Result<(), AllocError>
         ensures ok { OnOk result (self.new ≡ part ∷ self.old) }
         ensures err { OnErr result (self.new ≡ self.old) }

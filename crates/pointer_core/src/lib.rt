@@ -4,8 +4,6 @@
 mod pointer;
 mod refusal;
 mod schema_rule;
-#[cfg(test)]
-mod tests;
 
 pub use pointer::{Pointer, Token};
 pub use refusal::{Refusal, Rule};

@@ -1,4 +1,4 @@
-ghost use Rattle.std.specs.Prelude.{◌≡◌, [], ◌∷◌, ◌++◌, length, slice_get, encode_utf8, OnOk, OnErr, IfOk};
+ghost use Rattle.std.specs.Prelude.{◌≡◌, [], ◌∷◌, ◌++◌, length, slice_get, decimal, encode_utf8, OnOk, OnErr, IfOk};
 ghost use Rattle.std.specs.Option.{option_copied};
 ghost use Rattle.pointer_core.specs.Path.{printed, escaped};
 
@@ -41,13 +41,14 @@ impl Pointer {
         self.tokens.len()
     }
 
+    /// The token at an index from the root, or none where there are not so many.
     pub fn get(&self, at: usize) -> Option<&Token>
         ensures { option_copied result ≡ slice_get self.now at }
     {
         self.tokens.get(at)
     }
 
-    /// Goes one step further down.
+    /// Goes one step further down. The token is gone where memory runs out.
     pub fn push(&mut self, token: Token) -> Result<(), AllocError>
         ensures ok { OnOk result (self.new ≡ self.old ++ token ∷ []) }
         ensures err { OnErr result (self.new ≡ self.old) }
@@ -55,19 +56,35 @@ impl Pointer {
         self.tokens.push(token)
     }
 
-    /// Reads the pointer from one level higher up, where `token` leads to what was its root.
-    pub fn push_front(&mut self, token: Token) -> Result<(), AllocError>
-        ensures ok { OnOk result (self.new ≡ token ∷ self.old) }
-        ensures err { OnErr result (self.new ≡ self.old) }
+    /// The pointer as it reads one level higher up, where `token` leads to what was its root.
+    pub fn under(self, token: &str) -> Result<Pointer, AllocError>
+        ensures { IfOk result (λ longer. longer ≡ token.now ∷ self) }
     {
-        self.tokens.push_front(token)
+        let token = Txt::copy(self.tokens.allocator(), token)?;
+        self.under_token(token)
+    }
+
+    /// The same, where its root was the item of a list at `index`.
+    pub fn under_index(self, index: usize) -> Result<Pointer, AllocError>
+        ensures { IfOk result (λ longer. longer ≡ decimal index ∷ self) }
+    {
+        let token = format!(in self.tokens.allocator(); "{index}")?;
+        self.under_token(Txt::from_string(token))
+    }
+
+    fn under_token(self, token: Token) -> Result<Pointer, AllocError>
+        ensures { IfOk result (λ longer. longer ≡ token ∷ self) }
+    {
+        let Pointer { mut tokens } = self;
+        tokens.push_front(token)?;
+        Ok(Pointer { tokens })
     }
 
     /// The pointer's text: nothing for the root, otherwise a `/` before each token.
-    pub fn print(&self, alloc: Global) -> Result<Txt, AllocError>
+    pub fn print(&self) -> Result<Txt, AllocError>
         ensures { IfOk result (λ text. text ≡ printed self.now) }
     {
-        let mut text = Txt::new(alloc);
+        let mut text = Txt::new(self.tokens.allocator());
         for token in self.tokens.as_slice() {
             text.push('/')?;
             push_escaped(&mut text, token.text())?;

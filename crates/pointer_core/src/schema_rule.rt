@@ -15,9 +15,9 @@ pub enum SchemaRule {
     History,
     /// The root isn't a model.
     Target,
-    /// The members of a union aren't told apart.
+    /// The members of a union aren't told apart, or one is of a kind that no union takes.
     Union,
-    /// A default isn't made by its type.
+    /// A default isn't made by its type, or is too heavy or too deep, or making it needs itself.
     Default,
 }
 

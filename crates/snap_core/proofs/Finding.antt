@@ -1,5 +1,5 @@
 -- What a search by halves among ascending keys finds.
-use Rattle.std.proofs.Common.{◌≡◌, ℕ, zero, suc, ◌<◌, List, [], ◌∷◌, length, get_or, true, false, Option, Some, None, MatchOption, slice_get, Result, Ok, Err, refl, sym, ◌∙◌, ap, subst, inl, inr, arith, add-one}
+use Rattle.std.proofs.Common.{◌≡◌, ℕ, zero, suc, ◌<◌, List, [], ◌∷◌, length, get_or, true, false, Some, None, MatchOption, IfSome, slice_get, Result, Ok, Err, refl, sym, ◌∙◌, ap, subst, inl, inr, arith, add-one}
 use Rattle.std.specs.declared.cmp.Ordering.{Ordering}
 use Rattle.std.specs.declared.cmp.Ordering.TheVariants.{Less, Equal, Greater}
 use Rattle.std.specs.Ordering.{nat_cmp, is_eq, is_lt, ordering_index, ordering_reverse}
@@ -11,8 +11,9 @@ use Rattle.std.proofs.lemmas.Bool.{cases_lt}
 use Rattle.std.proofs.lemmas.Cmp.{nat_list_cmp_total, tied_back}
 use Rattle.std.proofs.lemmas.List.Sorted.{searchable_from_sorted}
 use Rattle.std.proofs.lemmas.Map.Text.{is_eq-slice_cmp}
+use Rattle.std.proofs.lemmas.Slice.Eq.{bytes_eq-Decides}
 use Rattle.std.proofs.lemmas.Option.{get_or_from_slice_get}
-use Rattle.snap_core.specs.Value.{Value, ComesBefore, AreKeyed, value_at}
+use Rattle.snap_core.specs.Value.{Value, ComesBefore, AreKeyed, keys_of, value_at}
 use Rattle.snap_core.specs.declared.snap.Field.{Field}
 use Rattle.snap_core.specs.View.{view, entry, fields_view}
 use Rattle.snap_core.proofs.Views.{entry-fields}
@@ -37,12 +38,12 @@ pub bytes_eq-unequal : (key k : List ℕ) → (key_cmp k key ≡ Equal → ⊥) 
 bytes_eq-unequal key k h = sym (is_eq-slice_cmp key k) ∙ is_eq-other (key_cmp key k) (λ e. h (tied_back nat_list_cmp_total key k e))
 
 -- what comes before a record's first key comes before each of its keys
-pub below_all : (k : List ℕ) (fs : List Field) (at : ℕ) (d : Field) → ComesBefore k (fields_view fs) → AreKeyed (fields_view fs) → at < length fs → key_cmp k (get_or fs at d).key ≡ Less
+pub below_all : (k : List ℕ) (fs : List Field) (at : ℕ) (d : Field) → ComesBefore k (keys_of (fields_view fs)) → AreKeyed (fields_view fs) → at < length fs → key_cmp k (get_or fs at d).key ≡ Less
 below_all k [] at d before keyed within = absurd (omega arith)
 below_all k (f ∷ fs) zero d before keyed within = let P : List ℕ × Value → Type 0 = λ e. key_cmp k e.0 ≡ Less in subst P (entry-fields f) before
 below_all k (f ∷ fs) (suc at) d before keyed within =
     let P : List ℕ × Value → Type 0 = λ e. key_cmp k e.0 ≡ Less in
-    let Q : List ℕ × Value → Type 0 = λ e. ComesBefore e.0 (fields_view fs) in
+    let Q : List ℕ × Value → Type 0 = λ e. ComesBefore e.0 (keys_of (fields_view fs)) in
     nat_list_cmp_total.trans k f.key (get_or fs at d).key (subst P (entry-fields f) before)
     (below_all f.key fs at d (subst Q (entry-fields f) keyed.0) keyed.1 (omega arith))
 
@@ -50,7 +51,7 @@ below_all k (f ∷ fs) (suc at) d before keyed within =
 pub rising : (fs : List Field) → AreKeyed (fields_view fs) → (k : ℕ) (d : Field) → suc k < length fs → is_lt (key_cmp (get_or fs (suc k) d).key (get_or fs k d).key) ≡ false
 rising [] keyed k d within = absurd (omega arith)
 rising (f ∷ fs) keyed zero d within =
-    let Q : List ℕ × Value → Type 0 = λ e. ComesBefore e.0 (fields_view fs) in
+    let Q : List ℕ × Value → Type 0 = λ e. ComesBefore e.0 (keys_of (fields_view fs)) in
     let next : key_cmp f.key (get_or fs 0 d).key ≡ Less = below_all f.key fs 0 d (subst Q (entry-fields f) keyed.0) keyed.1 (omega arith) in
     ap is_lt (nat_list_cmp_total.antisymm (get_or fs 0 d).key f.key ∙ ap ordering_reverse next)
 rising (f ∷ fs) keyed (suc k) d within = rising fs keyed.1 k d (omega arith)
@@ -68,7 +69,7 @@ value_at-present key (f ∷ fs) zero d keyed within same =
     rw (subst P (sym (entry-fields f)) (bytes_eq-Equal key f.key same))
 value_at-present key (f ∷ fs) (suc at) d keyed within same =
     let P : List ℕ × Value → Type 0 = λ e. bytes_eq key e.0 ≡ false in
-    let Q : List ℕ × Value → Type 0 = λ e. ComesBefore e.0 (fields_view fs) in
+    let Q : List ℕ × Value → Type 0 = λ e. ComesBefore e.0 (keys_of (fields_view fs)) in
     let here : key_cmp f.key (get_or fs at d).key ≡ Less = below_all f.key fs at d (subst Q (entry-fields f) keyed.0) keyed.1 (omega arith) in
     let less : key_cmp f.key key ≡ Less = nat_list_cmp_total.antisymm f.key key ∙ ap ordering_reverse (sym (nat_list_cmp_total.congr (get_or fs at d).key key f.key same) ∙ nat_list_cmp_total.antisymm (get_or fs at d).key f.key ∙ ap ordering_reverse here) in
     rw (subst P (sym (entry-fields f)) (bytes_eq-Less key f.key less)) (value_at-present key fs at d keyed.1 (omega arith) same)
@@ -93,3 +94,12 @@ value_at-searched key fs (Err at) keyed within parted =
       | inl low ↦ let less : key_cmp (get_or fs i d).key key ≡ Less = halves.0 i d (omega arith) low in cc
       | inr high ↦ let greater : key_cmp (get_or fs i d).key key ≡ Greater = halves.1 i d high inside in cc
     ])
+
+-- the field at the index that a search answers has the key
+pub key-searched : (key : List ℕ) (fs : List Field) (r : Result ℕ ℕ) → IsBinarySearchResult (λ (f : Field). key_cmp f.key key) fs r
+    → IfSome (result_ok r) (λ at. (field : Field) → slice_get fs at ≡ Some field → field.key ≡ key)
+key-searched key fs (Ok at) found = λ field here.
+    let P : Field → Type 0 = λ f. key_cmp f.key key ≡ Equal in
+    let same : key_cmp field.key key ≡ Equal = subst P (get_or_from_slice_get fs at field field here) (found field) in
+    sym ((bytes_eq-Decides key field.key).0 (bytes_eq-Equal key field.key same))
+key-searched key fs (Err at) found = tt

@@ -1,3 +1,4 @@
 pub mod Views
 pub mod Keys
 pub mod Finding
+pub mod Examples

@@ -1,5 +1,5 @@
 -- Values, as every definition of the project sees them: what JSON spells, with whole numbers alone.
-use Rattle.std.specs.Prelude.{◌≡◌, ℕ, ◌+◌, max, ℤ, pos, negsuc, int_le, List, length, Bool, ◌&&◌, IsTrue, Option, Some, None, if◌then◌else◌}
+use Rattle.std.specs.Prelude.{◌≡◌, ℕ, ◌+◌, max, ℤ, pos, negsuc, int_le, List, [], ◌∷◌, length, Bool, ◌&&◌, IsTrue, Option, Some, None, if◌then◌else◌}
 use Rattle.std.specs.declared.cmp.Ordering.TheVariants.{Less}
 use Rattle.std.specs.Ordering.{nat_cmp}
 use Rattle.std.specs.Cmp.Lexicographic.{slice_cmp}
@@ -69,10 +69,20 @@ abbrev mutual
 abbrev pub is_whole : ℤ → Bool
 is_whole z = int_le (negsuc 9007199254740990) z && int_le z (pos 9007199254740991)
 
--- the key comes before the keys of these entries, by its bytes
-abbrev pub ComesBefore : {A : Type 0} → List ℕ → Members A → Type 0
-ComesBefore k no_members = Unit {0}
-ComesBefore k (member l v ms) = slice_cmp nat_cmp k l ≡ Less
+-- a text comes before the first of these, by its bytes
+abbrev pub ComesBefore : List ℕ → List (List ℕ) → Type 0
+ComesBefore t [] = Unit {0}
+ComesBefore t (u ∷ us) = slice_cmp nat_cmp t u ≡ Less
+
+-- texts stand in strictly ascending order
+abbrev pub AreAscending : List (List ℕ) → Type 0
+AreAscending [] = Unit {0}
+AreAscending (t ∷ ts) = ComesBefore t ts × AreAscending ts
+
+-- the keys of a record's entries
+abbrev pub keys_of : {A : Type 0} → Members A → List (List ℕ)
+keys_of no_members = []
+keys_of (member k v ms) = k ∷ keys_of ms
 
 abbrev mutual
   -- integers are in their range, and the keys of each record stand in strictly ascending order
@@ -82,35 +92,34 @@ abbrev mutual
   IsPlain (integer z) = IsTrue (is_whole z)
   IsPlain (text s) = Unit {0}
   IsPlain (list a ps) = ArePlain ps
-  IsPlain (dict a ms) = AreAscending ms
+  IsPlain (dict a ms) = ArePlainMembers ms
 
   pub ArePlain : {A : Type 0} → Parts A → Type 0
   ArePlain no_parts = Unit {0}
   ArePlain (part v ps) = IsPlain v × ArePlain ps
 
-  pub AreAscending : {A : Type 0} → Members A → Type 0
-  AreAscending no_members = Unit {0}
-  AreAscending (member k v ms) = IsPlain v × ComesBefore k ms × AreAscending ms
+  pub ArePlainMembers : {A : Type 0} → Members A → Type 0
+  ArePlainMembers no_members = Unit {0}
+  ArePlainMembers (member k v ms) = IsPlain v × ComesBefore k (keys_of ms) × ArePlainMembers ms
 
 -- the keys of one record stand in strictly ascending order, whatever stands under them
 abbrev pub AreKeyed : {A : Type 0} → Members A → Type 0
-AreKeyed no_members = Unit {0}
-AreKeyed (member k v ms) = ComesBefore k ms × AreKeyed ms
+AreKeyed ms = AreAscending (keys_of ms)
 
 abbrev mutual
   -- the keys of each record stand in strictly ascending order
   pub IsOrdered : {A : Type 0} → Tree A → Type 0
   IsOrdered (list a ps) = AreOrdered ps
-  IsOrdered (dict a ms) = HaveOrder ms
+  IsOrdered (dict a ms) = AreOrderedMembers ms
   IsOrdered _ = Unit {0}
 
   pub AreOrdered : {A : Type 0} → Parts A → Type 0
   AreOrdered no_parts = Unit {0}
   AreOrdered (part v ps) = IsOrdered v × AreOrdered ps
 
-  pub HaveOrder : {A : Type 0} → Members A → Type 0
-  HaveOrder no_members = Unit {0}
-  HaveOrder (member k v ms) = IsOrdered v × ComesBefore k ms × HaveOrder ms
+  pub AreOrderedMembers : {A : Type 0} → Members A → Type 0
+  AreOrderedMembers no_members = Unit {0}
+  AreOrderedMembers (member k v ms) = IsOrdered v × ComesBefore k (keys_of ms) × AreOrderedMembers ms
 
 -- the value of the record's first entry under a key
 abbrev pub value_at : {A : Type 0} → List ℕ → Members A → Option (Tree A)

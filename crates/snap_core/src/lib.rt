@@ -5,12 +5,12 @@ mod lookup;
 mod name;
 mod number;
 mod snap;
-#[cfg(test)]
-mod tests;
 mod text;
+mod whole;
 
 pub use lookup::{find, position};
 pub use name::{Name, NameError, is_name};
 pub use number::{ModelNo, TypeNo};
 pub use snap::{Field, Fields, Items, Snap};
 pub use text::{Bytes, Txt};
+pub use whole::is_whole;

@@ -24,6 +24,7 @@ pub fn position(fields: &[Field], key: &str) -> Option<usize>
     ensures found { let value = value_at key.now (fields_view fields.now) in
         MatchOption result (value ≡ None)
         (λ at. (field : Field) → slice_get fields.now at ≡ Some field → value ≡ Some (view field.value)) }
+    ensures key { IfSome result (λ at. (field : Field) → slice_get fields.now at ≡ Some field → field.key ≡ key.now) }
 {
     fields
         .binary_search_by(|field| field.key.text().cmp(key))

@@ -1,4 +1,4 @@
-ghost use Rattle.std.specs.Prelude.{◌≡◌, false, IsTrue, IfOk, IsErrOf};
+ghost use Rattle.std.specs.Prelude.{◌≡◌, ◌↔◌, false, IsTrue, IfOk, IsErrOf};
 ghost use Rattle.std.specs.List.{list_all};
 ghost use Rattle.snap_core.specs.Name.{is_name, is_name_byte};
 
@@ -38,7 +38,7 @@ impl Name {
     /// Reads a name.
     pub fn read(alloc: Global, text: &str) -> Result<Name, NameError>
         ensures ok { IfOk result (λ name. name ≡ text.now) }
-        ensures bad { IsErrOf result NameError.BadName → is_name text.now ≡ false }
+        ensures bad { IsErrOf result NameError.BadName ↔ (is_name text.now ≡ false) }
         ensures named { IfOk result (λ name. IsTrue (is_name name)) }
     {
         if !is_name(text.as_bytes()) {
@@ -48,6 +48,7 @@ impl Name {
         Ok(Name { text })
     }
 
+    /// The name's text.
     pub fn text(&self) -> &str
         ensures text { result.now ≡ self.now }
         ensures named { IsTrue (is_name self.now) }
@@ -59,7 +60,7 @@ impl Name {
     pub fn clone_in(&self, alloc: Global) -> Result<Name, AllocError>
         ensures { IfOk result (λ copy. copy ≡ self.now) }
     {
-        let text = self.text.clone_in(alloc)?;
+        let text = Txt::copy(alloc, self.text())?;
         Ok(Name { text })
     }
 }

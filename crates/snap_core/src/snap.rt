@@ -40,12 +40,13 @@ impl Snap {
             Snap::Null => Ok(Snap::Null),
             Snap::Bool(b) => Ok(Snap::Bool(*b)),
             Snap::Int(n) => Ok(Snap::Int(*n)),
-            Snap::Text(text) => Ok(Snap::Text(text.clone_in(alloc)?)),
+            Snap::Text(text) => Ok(Snap::Text(Txt::copy(alloc, text.text())?)),
             Snap::List(items) => Ok(Snap::List(copy_items(alloc, items)?)),
             Snap::Dict(fields) => Ok(Snap::Dict(copy_fields(alloc, fields)?)),
         }
     }
 
+    /// Whether two values are equal: the same parts in the same order.
     #[cycle(equal)]
     pub fn equal(&self, other: &Snap) -> bool
         ensures { IsTrue result ↔ (self.now ≡ other.now) }
@@ -187,7 +188,7 @@ fn copy_fields(alloc: Global, fields: &Fields) -> Result<Fields, AllocError>
     let mut copy = Parts::new(alloc);
     for field in fields.as_slice() {
         copy.push(Field {
-            key: field.key.clone_in(alloc)?,
+            key: Txt::copy(alloc, field.key.text())?,
             value: field.value.clone_in(alloc)?,
         })?;
     }

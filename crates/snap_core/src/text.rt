@@ -1,4 +1,5 @@
 ghost use Rattle.std.specs.Prelude.{◌≡◌, [], ◌++◌, length, encode_utf8, IfOk, OnOk, OnErr};
+ghost use Rattle.std.specs.String.{string_bytes};
 
 use list_core::Parts;
 use std::alloc::{AllocError, Global};
@@ -32,6 +33,13 @@ impl Txt {
         }
     }
 
+    /// The text of a `String`, which it takes over.
+    pub fn from_string(text: String) -> Txt
+        ensures { result ≡ string_bytes text }
+    {
+        Txt { text }
+    }
+
     /// The same text on the heap.
     pub fn copy(alloc: Global, text: &str) -> Result<Txt, AllocError>
         ensures { IfOk result (λ copy. copy ≡ text.now) }
@@ -41,6 +49,7 @@ impl Txt {
         })
     }
 
+    /// The text as a slice of its bytes.
     pub fn text(&self) -> &str
         ensures { result.now ≡ self.now }
     {
@@ -70,10 +79,10 @@ impl Txt {
         self.text.push_str(text)
     }
 
-    /// An equal text.
-    pub fn clone_in(&self, alloc: Global) -> Result<Txt, AllocError>
+    /// An equal text, which takes its memory from where this one does.
+    pub fn clone_in(&self) -> Result<Txt, AllocError>
         ensures { IfOk result (λ copy. copy ≡ self.now) }
     {
-        Txt::copy(alloc, self.text())
+        Txt::copy(*self.text.allocator(), self.text())
     }
 }
