@@ -1,3 +1,2 @@
 pub mod DoorSteps
-pub mod Waiting
 pub mod Written

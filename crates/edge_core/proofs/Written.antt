@@ -1,6 +1,7 @@
 -- What was written to each of the links that ended, the open one, and those to come.
 use Rattle.std.proofs.Common.{ℕ, ◌≡◌, ◌<◌, ◌≤◌, ◌+◌, List, [], ◌∷◌, ◌++◌, Some, None, option_map, option_to_list, map, slice_get, get_or, length, zero, suc, refl, ap, ◌∙◌, arith}
-use Rattle.edge_core.specs.Door.{Link, BoundedLink, inputs_of, all_written}
+use Rattle.edge_core.specs.Door.{Link, all_written}
+use Rattle.edge_core.specs.LinkInside.{BoundedLink, inputs_of}
 use Rattle.edge_core.specs.DoorInside.{state_of}
 use Rattle.edge_core.specs.declared.memory_door.MemoryDoor.TheInside.{Inside}
 

@@ -53,28 +53,9 @@ abbrev pub after_shut : Links → Links
 after_shut links =
     record links { shut = links.shut ++ option_to_list links.current; current = None }
 
--- a link in memory, and the room in bytes for all that is written to it
-pub record BoundedLink : Type 0 where
-  pub link : Link
-  pub space : ℕ
-
--- nothing is written to the link yet, and it has that room
-pub record IsFresh (space : ℕ) (bounded : BoundedLink) : Type 0 where
-  pub unwritten : bounded.link.written ≡ []
-  pub roomy : bounded.space ≡ space
-
--- after a piece was written, which is left out where it has no place
-abbrev pub after_piece : List ℕ → BoundedLink → BoundedLink
-after_piece piece bounded =
-    let written = bounded.link.written in
-    record bounded { link = record bounded.link { written = if has_place written bounded.space piece then written ++ piece else written } }
-
 -- after that many bytes were read
 abbrev pub after_bytes : ℕ → Link → Link
 after_bytes n link = record link { left = drop n link.left }
-
-abbrev pub after_reading : ℕ → BoundedLink → BoundedLink
-after_reading n bounded = record bounded { link = after_bytes n bounded.link }
 
 -- links in memory: no read takes more than `cut` bytes, and `space` is the room for all that is written to a link
 pub record DoorState : Type 0 where
@@ -103,7 +84,10 @@ with_next (input ∷ coming) links =
 abbrev pub after_accept : DoorState → DoorState
 after_accept door =
     let failed = is_next_failing door.faults in
-    record door { links = if failed then door.links else with_next door.links.coming door.links; faults = after_call door.faults failed }
+    record door {
+      links = if failed then door.links else with_next door.links.coming door.links;
+      faults = after_call door.faults failed;
+    }
 
 -- what the open link still brings, and what was written to it
 abbrev pub left_of : Option Link → List ℕ
@@ -122,7 +106,10 @@ abbrev pub after_read : DoorState → ℕ → DoorState
 after_read door room =
     let failed = is_next_failing door.faults in
     let current = door.links.current in
-    record door { links = record door.links { current = if failed then current else option_map (after_bytes (read_count door room)) current }; faults = after_call door.faults failed }
+    record door {
+      links = record door.links { current = if failed then current else option_map (after_bytes (read_count door room)) current };
+      faults = after_call door.faults failed;
+    }
 
 -- the next writing fails: it is to fail, or the link has no room left for the piece
 abbrev pub write_fails : DoorState → List ℕ → Bool
@@ -136,22 +123,15 @@ abbrev pub after_write : DoorState → List ℕ → DoorState
 after_write door piece =
     let failed = write_fails door piece in
     let current = door.links.current in
-    record door { links = record door.links { current = if failed then current else option_map (with_written piece) current }; faults = after_call door.faults failed }
+    record door {
+      links = record door.links { current = if failed then current else option_map (with_written piece) current };
+      faults = after_call door.faults failed;
+    }
 
 -- what was written to each link, in order: nothing yet to those that are to come
 abbrev pub all_written : Links → List (List ℕ)
 all_written links =
     map (λ link. link.written) (links.shut ++ option_to_list links.current) ++ map (λ input. []) links.coming
-
--- what each link to come brings
-abbrev pub inputs_of : List BoundedLink → List (List ℕ)
-inputs_of [] = []
-inputs_of (bounded ∷ coming) = bounded.link.left ∷ inputs_of coming
-
--- each link to come is fresh
-abbrev pub AllFresh : ℕ → List BoundedLink → Type 0
-AllFresh space [] = Unit {0}
-AllFresh space (bounded ∷ coming) = IsFresh space bounded × AllFresh space coming
 
 -- what is known of a door to the system
 pub record RealDoorState : Type 0 where

@@ -1,4 +1,4 @@
-ghost use Rattle.std.specs.Prelude.{◌≡◌, ◌≤◌};
+ghost use Rattle.std.specs.Prelude.{◌≡◌, ◌≤◌, ◌||◌};
 ghost use Rattle.edge_core.specs.Faults.{is_next_failing, after_call};
 
 use list_core::Parts;
@@ -34,22 +34,19 @@ impl FaultPlan {
         }
     }
 
-    pub(crate) fn is_next_failing(&self) -> bool
-        ensures { result ≡ is_next_failing self.now }
-    {
-        let next = self.calls.saturating_add(1);
-        self.failing.as_slice().contains(&next)
-    }
-
-    /// Counts a call, and a fault where it failed.
-    pub(crate) fn count_call(&mut self, failed: bool)
-        ensures after { self.new ≡ after_call self.old failed }
+    /// Counts a call, and answers whether it fails: it was to fail, or fails for `another` cause.
+    /// A call that fails is counted as a fault.
+    pub(crate) fn fails_next(&mut self, another: bool) -> bool
+        ensures result { result ≡ (is_next_failing self.old || another) }
+        ensures after { self.new ≡ after_call self.old result }
         ensures never_falls { self.old.count ≤ self.new.count }
     {
         self.calls = self.calls.saturating_add(1);
-        if failed {
+        let fails = self.failing.as_slice().contains(&self.calls) || another;
+        if fails {
             self.count = self.count.saturating_add(1);
         }
+        fails
     }
 
     /// How many calls failed.

@@ -1,5 +1,5 @@
-ghost use Rattle.std.specs.Prelude.{◌≡◌, [], IfOk};
-ghost use Rattle.edge_core.specs.Room.{has_place, after_append};
+ghost use Rattle.std.specs.Prelude.{◌≡◌, ◌++◌, [], IfOk, IsTrue};
+ghost use Rattle.edge_core.specs.Room.{has_place};
 
 use std::alloc::{AllocError, Global};
 use std::marker::Model;
@@ -45,12 +45,11 @@ impl FilledRoom {
         piece.len() <= self.space - self.bytes.len()
     }
 
-    /// Adds a piece behind the bytes, unless it has no place there.
+    /// Adds a piece behind the bytes.
     pub(crate) fn append(&mut self, piece: &[u8])
-        ensures { self.new ≡ after_append self.old piece.now }
+        requires { IsTrue (has_place self.old.bytes self.old.space piece.now) }
+        ensures { self.new ≡ record self.old { bytes = self.old.bytes ++ piece.now } }
     {
-        if piece.len() <= self.space - self.bytes.len() {
-            self.bytes.extend_from_slice(piece).unwrap();
-        }
+        self.bytes.extend_from_slice(piece).unwrap();
     }
 }

@@ -9,8 +9,6 @@ mod memory_link;
 mod memory_world;
 mod real_door;
 mod real_world;
-#[cfg(test)]
-mod tests;
 mod world;
 
 pub use door::{Door, DoorFault};

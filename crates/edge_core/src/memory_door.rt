@@ -1,8 +1,10 @@
-ghost use Rattle.std.specs.Prelude.{◌≡◌, ◌≤◌, ◌<◌, ◌++◌, [], length, take, drop, min, IfOk, IfSome, IsTrue, false, is_some, is_err, slice_get, option_map, map};
+ghost use Rattle.std.specs.Prelude.{◌≡◌, ◌≤◌, ◌<◌, ◌++◌, [], length, take, drop, min, IfOk, OnErr, IfSome, IsTrue, IsSomeAnd, false, is_some, is_err, slice_get, option_map, map};
+ghost use Rattle.std.specs.List.{All};
 ghost use Rattle.std.specs.Option.{option_copied};
 ghost use Rattle.edge_core.specs.Room.{has_place};
 ghost use Rattle.edge_core.specs.Faults.{is_next_failing};
-ghost use Rattle.edge_core.specs.Door.{AllFresh, inputs_of, after_reading, after_piece, after_attach, has_next, after_accept, left_of, read_count, after_read, write_fails, after_write, after_shut, all_written};
+ghost use Rattle.edge_core.specs.LinkInside.{IsFresh, inputs_of, after_reading, after_writing};
+ghost use Rattle.edge_core.specs.Door.{after_attach, has_next, after_accept, left_of, read_count, after_read, write_fails, after_write, after_shut, all_written};
 
 use crate::door::{Door, DoorFault};
 use crate::fault_plan::{Calls, FaultPlan};
@@ -42,14 +44,14 @@ impl Model for MemoryDoor {
 
 fn waiting_links(
     alloc: Global,
-    inputs: &[Bytes],
+    inputs: Inputs,
     space: usize,
 ) -> Result<VecDeque<MemoryLink>, AllocError>
-    ensures inputs { IfOk result (λ coming. inputs_of coming.items ≡ inputs.now) }
-    ensures fresh { IfOk result (λ coming. AllFresh space coming.items) }
+    ensures inputs { IfOk result (λ coming. inputs_of coming.items ≡ inputs) }
+    ensures fresh { IfOk result (λ coming. All (IsFresh space) coming.items) }
 {
     let mut coming = VecDeque::new(alloc);
-    for input in inputs {
+    for input in inputs.into_vec() {
         coming.push_back(MemoryLink::new(alloc, input, space)?)?;
     }
     Ok(coming)
@@ -57,8 +59,10 @@ fn waiting_links(
 
 fn read_from(current: &mut Option<MemoryLink>, cut: usize, room: &mut [u8]) -> usize
     requires { IsTrue (is_some current.old) }
-    ensures count { IfSome current.old (λ bounded. result ≡ min cut (min (length room.old) (length bounded.link.left))) }
-    ensures bytes { IfSome current.old (λ bounded. room.new ≡ take result bounded.link.left ++ drop result room.old) }
+    ensures count { IfSome current.old (λ bounded.
+        result ≡ min cut (min (length room.old) (length bounded.link.left))) }
+    ensures bytes { IfSome current.old (λ bounded.
+        room.new ≡ take result bounded.link.left ++ drop result room.old) }
     ensures after { current.new ≡ option_map (after_reading result) current.old }
 {
     match current {
@@ -69,7 +73,8 @@ fn read_from(current: &mut Option<MemoryLink>, cut: usize, room: &mut [u8]) -> u
 
 fn has_place(current: &Option<MemoryLink>, piece: &[u8]) -> bool
     requires { IsTrue (is_some current.now) }
-    ensures { IfSome current.now (λ bounded. result ≡ has_place bounded.link.written bounded.space piece.now) }
+    ensures { IfSome current.now (λ bounded.
+        result ≡ has_place bounded.link.written bounded.space piece.now) }
 {
     match current {
         Some(link) => link.has_place(piece),
@@ -78,8 +83,9 @@ fn has_place(current: &Option<MemoryLink>, piece: &[u8]) -> bool
 }
 
 fn write_to(current: &mut Option<MemoryLink>, piece: &[u8])
-    requires { IsTrue (is_some current.old) }
-    ensures { current.new ≡ option_map (after_piece piece.now) current.old }
+    requires { IsSomeAnd current.old (λ bounded.
+        IsTrue (has_place bounded.link.written bounded.space piece.now)) }
+    ensures { current.new ≡ option_map (after_writing piece.now) current.old }
 {
     match current {
         Some(link) => link.write(piece),
@@ -97,7 +103,8 @@ fn unwritten(coming: &VecDeque<MemoryLink>, at: usize) -> Option<&[u8]>
 impl MemoryDoor {
     /// Links that bring these inputs, none of them open. A read takes at most `cut` bytes, and
     /// `space` is the room in bytes for all that is written to a link. `fails` are the numbers of
-    /// the calls that fail, counted over `attach`, `accept`, `read` and `write`.
+    /// the calls that fail, counted over `attach`, `accept`, `read` and `write`. Fails for want of
+    /// memory alone.
     pub fn new(
         alloc: Global,
         inputs: Inputs,
@@ -106,9 +113,15 @@ impl MemoryDoor {
         fails: Calls,
     ) -> Result<MemoryDoor, AllocError>
         requires { 0 < cut }
-        ensures { IfOk result (λ door. door ≡ record { is_attached = false; links = record { shut = []; current = None; coming = inputs }; cut = cut; space = space; faults = record { calls = 0; count = 0; failing = fails } }) }
+        ensures { IfOk result (λ door. door ≡ record {
+          is_attached = false;
+          links = record { shut = []; current = None; coming = inputs };
+          cut = cut;
+          space = space;
+          faults = record { calls = 0; count = 0; failing = fails };
+        }) }
     {
-        let coming = waiting_links(alloc, inputs.as_slice(), space)?;
+        let coming = waiting_links(alloc, inputs, space)?;
         Ok(MemoryDoor {
             shut: Vec::with_capacity(alloc, coming.len())?,
             current: None,
@@ -126,9 +139,7 @@ impl MemoryDoor {
         ensures after { self.new ≡ after_attach self.old }
         ensures count { self.old.faults.count ≤ self.new.faults.count }
     {
-        let fails = self.plan.is_next_failing();
-        self.plan.count_call(fails);
-        if fails {
+        if self.plan.fails_next(false) {
             return Err(DoorFault);
         }
         self.attached = true;
@@ -144,9 +155,7 @@ impl MemoryDoor {
         ensures after { self.new ≡ after_accept self.old }
         ensures count { self.old.faults.count ≤ self.new.faults.count }
     {
-        let fails = self.plan.is_next_failing();
-        self.plan.count_call(fails);
-        if fails {
+        if self.plan.fails_next(false) {
             return Err(DoorFault);
         }
         match self.coming.pop_front() {
@@ -158,22 +167,25 @@ impl MemoryDoor {
         }
     }
 
-    /// As `Door::read`: it takes all that the link brings, as far as `room` and the cut go.
+    /// As `Door::read`: it takes all that the link brings, as far as `room` and the cut go. The rest
+    /// of `room` stays, and after a failure all of it.
     pub fn read(&mut self, room: &mut [u8]) -> Result<usize, DoorFault>
         requires { IsTrue (is_some self.old.links.current) }
         ensures failed { is_err result ≡ is_next_failing self.old.faults }
         ensures read { IfOk result (λ n. n ≡ read_count self.old (length room.old)) }
-        ensures at_end { IfOk result (λ n. n ≡ 0 → 0 < length room.old → left_of self.old.links.current ≡ []) }
-        ensures bytes { IfOk result (λ n. room.new ≡ take n (left_of self.old.links.current) ++ drop n room.old) }
+        ensures at_end { IfOk result (λ n.
+            n ≡ 0 → 0 < length room.old → left_of self.old.links.current ≡ []) }
+        ensures bytes { IfOk result (λ n.
+            room.new ≡ take n (left_of self.old.links.current) ++ drop n room.old) }
+        ensures kept { OnErr result (room.new ≡ room.old) }
         ensures after { self.new ≡ after_read self.old (length room.old) }
         ensures count { self.old.faults.count ≤ self.new.faults.count }
     {
-        let fails = self.plan.is_next_failing();
-        self.plan.count_call(fails);
-        if fails {
-            return Err(DoorFault);
+        if self.plan.fails_next(false) {
+            Err(DoorFault)
+        } else {
+            Ok(read_from(&mut self.current, self.cut, room))
         }
-        Ok(read_from(&mut self.current, self.cut, room))
     }
 
     /// As `Door::write`: the whole piece is written, or it has no place in the room and fails.
@@ -184,9 +196,7 @@ impl MemoryDoor {
         ensures after { self.new ≡ after_write self.old piece.now }
         ensures count { self.old.faults.count ≤ self.new.faults.count }
     {
-        let fails = self.plan.is_next_failing() || !has_place(&self.current, piece);
-        self.plan.count_call(fails);
-        if fails {
+        if self.plan.fails_next(!has_place(&self.current, piece)) {
             return Err(DoorFault);
         }
         write_to(&mut self.current, piece);

@@ -1,6 +1,6 @@
-ghost use Rattle.std.specs.Prelude.{◌≡◌, ◌++◌, [], length, take, drop, min, IfOk};
+ghost use Rattle.std.specs.Prelude.{◌≡◌, ◌++◌, [], length, take, drop, min, IfOk, IsTrue};
 ghost use Rattle.edge_core.specs.Room.{has_place};
-ghost use Rattle.edge_core.specs.Door.{after_reading, after_piece};
+ghost use Rattle.edge_core.specs.LinkInside.{after_reading, after_writing};
 
 use crate::filled::FilledRoom;
 use snap_core::Bytes;
@@ -17,22 +17,28 @@ pub(crate) struct MemoryLink {
 
 impl Model for MemoryLink {
     ghost use Rattle.std.specs.Prelude.{◌≤◌, drop, length};
-    ghost use Rattle.edge_core.specs.Door.{BoundedLink};
+    ghost use Rattle.edge_core.specs.LinkInside.{BoundedLink};
 
     ghost Value = { BoundedLink };
 
-    ghost view = { λ l. record { link = record { left = drop l.position l.input; written = l.output.bytes }; space = l.output.space } };
+    ghost view = { λ l. record {
+      link = record { left = drop l.position l.input; written = l.output.bytes };
+      space = l.output.space;
+    } };
 
     ghost invariant = { λ l. l.position ≤ length l.input };
 }
 
 impl MemoryLink {
     /// A link that brings `input`, with room for `space` bytes to be written.
-    pub(crate) fn new(alloc: Global, input: &Bytes, space: usize) -> Result<MemoryLink, AllocError>
-        ensures { IfOk result (λ made. made ≡ record { link = record { left = input.now; written = [] }; space = space }) }
+    pub(crate) fn new(alloc: Global, input: Bytes, space: usize) -> Result<MemoryLink, AllocError>
+        ensures { IfOk result (λ made. made ≡ record {
+          link = record { left = input; written = [] };
+          space = space;
+        }) }
     {
         Ok(MemoryLink {
-            input: Bytes::from_slice(alloc, input.as_slice())?,
+            input,
             position: 0,
             output: FilledRoom::new(alloc, space)?,
         })
@@ -50,9 +56,10 @@ impl MemoryLink {
         self.output.has_place(piece)
     }
 
-    /// Writes a piece, unless it has no place in the room.
+    /// Writes a piece, which has a place in the room.
     pub(crate) fn write(&mut self, piece: &[u8])
-        ensures { self.new ≡ after_piece piece.now self.old }
+        requires { IsTrue (has_place self.old.link.written self.old.space piece.now) }
+        ensures { self.new ≡ after_writing piece.now self.old }
     {
         self.output.append(piece);
     }

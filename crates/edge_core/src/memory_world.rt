@@ -28,7 +28,13 @@ impl Model for MemoryWorld {
 
     ghost Value = { WorldState };
 
-    ghost view = { λ w. record { files = w.files; out = w.out.bytes; err = w.err.bytes; space = w.out.space; faults = w.plan } };
+    ghost view = { λ w. record {
+      files = w.files;
+      out = w.out.bytes;
+      err = w.err.bytes;
+      space = w.out.space;
+      faults = w.plan;
+    } };
 
     ghost invariant = { λ w. w.err.space ≡ w.out.space };
 }
@@ -58,14 +64,20 @@ fn copy_at_most(alloc: Global, contents: &Bytes, most: usize) -> Result<Bytes, E
 impl MemoryWorld {
     /// A world with these files and nothing written. `space` is the room in bytes for standard
     /// output, and as much again for standard error. `fails` are the numbers of the calls that
-    /// fail, counted over `read_file`, `write_out` and `write_err`.
+    /// fail, counted over `read_file`, `write_out` and `write_err`. Fails for want of memory alone.
     pub fn new(
         alloc: Global,
         files: Files,
         space: usize,
         fails: Calls,
     ) -> Result<MemoryWorld, AllocError>
-        ensures { IfOk result (λ world. world ≡ record { files = files; out = []; err = []; space = space; faults = record { calls = 0; count = 0; failing = fails } }) }
+        ensures { IfOk result (λ world. world ≡ record {
+          files = files;
+          out = [];
+          err = [];
+          space = space;
+          faults = record { calls = 0; count = 0; failing = fails };
+        }) }
     {
         Ok(MemoryWorld {
             files,
@@ -89,18 +101,18 @@ impl MemoryWorld {
         self.err.as_slice()
     }
 
-    /// As `World::read_file`.
+    /// As `World::read_file`. A name that isn't among the files is `Failed`, and is counted.
     pub fn read_file(&mut self, alloc: Global, name: &str, most: usize) -> Result<Bytes, EdgeError>
         ensures ok { IfOk result (λ bytes. file_of self.old.files name.now ≡ Some bytes) }
         ensures at_most { IfOk result (λ bytes. length bytes ≤ most) }
         ensures failed { IsErrOf result EdgeError.Failed ↔ IsTrue (read_fails self.old name.now) }
-        ensures too_long { IsErrOf result EdgeError.TooLong ↔ (¬ IsTrue (read_fails self.old name.now) × IsSomeAnd (file_of self.old.files name.now) (λ bytes. most < length bytes)) }
+        ensures too_long { IsErrOf result EdgeError.TooLong ↔ (¬ IsTrue (read_fails self.old name.now)
+            × IsSomeAnd (file_of self.old.files name.now) (λ bytes. most < length bytes)) }
         ensures after { self.new ≡ after_read self.old name.now }
         ensures count { self.old.faults.count ≤ self.new.faults.count }
     {
-        let fails = self.plan.is_next_failing();
         let found = find(self.files.as_slice(), name);
-        self.plan.count_call(fails || found.is_none());
+        let fails = self.plan.fails_next(found.is_none());
         match found {
             Some(contents) if !fails => copy_at_most(alloc, contents, most),
             _ => Err(EdgeError::Failed),
@@ -114,9 +126,7 @@ impl MemoryWorld {
         ensures after { self.new ≡ after_out self.old piece.now }
         ensures count { self.old.faults.count ≤ self.new.faults.count }
     {
-        let fails = self.plan.is_next_failing() || !self.out.has_place(piece);
-        self.plan.count_call(fails);
-        if fails {
+        if self.plan.fails_next(!self.out.has_place(piece)) {
             return Err(EdgeError::Failed);
         }
         self.out.append(piece);
@@ -130,9 +140,7 @@ impl MemoryWorld {
         ensures after { self.new ≡ after_err self.old piece.now }
         ensures count { self.old.faults.count ≤ self.new.faults.count }
     {
-        let fails = self.plan.is_next_failing() || !self.err.has_place(piece);
-        self.plan.count_call(fails);
-        if fails {
+        if self.plan.fails_next(!self.err.has_place(piece)) {
             return Err(EdgeError::Failed);
         }
         self.err.append(piece);

@@ -41,7 +41,11 @@ impl<N: Net, I, O> Model for RealDoor<N, I, O> {
 
     ghost Value = { RealDoorState };
 
-    ghost view = { λ d. record { is_attached = is_some d.source; is_open = is_some d.peer; faults = d.faults } };
+    ghost view = { λ d. record {
+      is_attached = is_some d.source;
+      is_open = is_some d.peer;
+      faults = d.faults;
+    } };
 }
 
 fn source_at<N: Net>(net: &N, port: Option<u16>) -> io::Result<Source<N::Listener>> {

@@ -1,4 +1,4 @@
-ghost use Rattle.std.specs.Prelude.{◌≡◌, ◌≤◌, ℕ};
+ghost use Rattle.std.specs.Prelude.{◌≡◌, ◌≤◌};
 ghost use Rattle.edge_core.specs.Faults.{HasRisen};
 
 use crate::world::{EdgeError, World};
@@ -36,6 +36,7 @@ fn read_past<F: Files>(files: &F, alloc: Global, name: &str, most: usize) -> io:
 }
 
 impl<F, O, E> RealWorld<F, O, E> {
+    /// The files, and the streams that are standard output and error. No fault is counted yet.
     pub fn new(files: F, out: O, err: E) -> RealWorld<F, O, E>
         ensures { result ≡ 0 }
     {
@@ -71,7 +72,7 @@ impl<F: Files, O: Print, E: Print> World for RealWorld<F, O, E> {
     fn read_file(&mut self, alloc: Global, name: &str, most: usize) -> Result<Bytes, EdgeError> {
         match read_past(&self.files, alloc, name, most) {
             Ok(bytes) if bytes.len() > most => Err(EdgeError::TooLong),
-            Ok(bytes) => Ok(Bytes::from_slice(alloc, bytes.as_slice())?),
+            Ok(bytes) => Ok(Bytes::from_vec(bytes)),
             Err(e) if e.kind() == io::ErrorKind::OutOfMemory => Err(EdgeError::Memory),
             Err(_) => Err(self.failure()),
         }

@@ -9,10 +9,13 @@ use thiserror::Error;
 /// Why the outside gave no answer.
 #[derive(Clone, Copy, Debug, PartialEq, Eq, Error)]
 pub enum EdgeError {
+    /// Memory ran out. It is no fault.
     #[error("out of memory")]
     Memory,
+    /// The call failed, and was counted as a fault.
     #[error("the outside failed")]
     Failed,
+    /// The file has more bytes than were asked for. It is no fault.
     #[error("the file is too long")]
     TooLong,
 }
@@ -39,35 +42,44 @@ pub trait World {
     /// The bytes written to standard error.
     ghost err: { Self → Option (List ℕ) };
 
+    /// How many calls failed.
     ghost fault_count: { Self → ℕ };
 
-    /// The whole file, where it has at most `most` bytes.
+    /// The whole file, where it has at most `most` bytes: `TooLong` where it has more, `Failed`
+    /// where it can't be read, and a fault is counted, `Memory` where memory runs out.
     fn read_file(&mut self, alloc: Global, name: &str, most: usize) -> Result<Bytes, EdgeError>
-        ensures ok { IfOk result (λ bytes. IfSome (files self.old) (λ fs. file_of fs name.now ≡ Some bytes)) }
+        ensures ok { IfOk result (λ bytes.
+            IfSome (files self.old) (λ fs. file_of fs name.now ≡ Some bytes)) }
         ensures at_most { IfOk result (λ bytes. length bytes ≤ most) }
-        ensures too_long { IsErrOf result EdgeError.TooLong → IfSome (files self.old) (λ fs. IsSomeAnd (file_of fs name.now) (λ bytes. most < length bytes)) }
-        ensures failed { IsErrOf result EdgeError.Failed → HasRisen (fault_count self.old) (fault_count self.new) }
+        ensures too_long { IsErrOf result EdgeError.TooLong → IfSome (files self.old) (λ fs.
+            IsSomeAnd (file_of fs name.now) (λ bytes. most < length bytes)) }
+        ensures failed { IsErrOf result EdgeError.Failed →
+            HasRisen (fault_count self.old) (fault_count self.new) }
         ensures same_files { files self.new ≡ files self.old }
         ensures same_out { out self.new ≡ out self.old }
         ensures same_err { err self.new ≡ err self.old }
         ensures count { fault_count self.old ≤ fault_count self.new };
 
-    /// Writes the whole piece to standard output, or fails and has written a part of it.
+    /// Writes the whole piece to standard output, or fails as `Failed` and has written a part of it,
+    /// which may be none or all. A fault is counted.
     fn write_out(&mut self, piece: &[u8]) -> Result<(), EdgeError>
         ensures ok { OnOk result (out self.new ≡ option_map (λ bytes. bytes ++ piece.now) (out self.old)) }
         ensures error { IfErr result (λ e. e ≡ EdgeError.Failed) }
         ensures failed { OnErr result (HasRisen (fault_count self.old) (fault_count self.new)) }
-        ensures part { OnErr result ((n : ℕ) × (out self.new ≡ option_map (λ bytes. bytes ++ take n piece.now) (out self.old))) }
+        ensures part { OnErr result ((n : ℕ)
+            × (out self.new ≡ option_map (λ bytes. bytes ++ take n piece.now) (out self.old))) }
         ensures same_files { files self.new ≡ files self.old }
         ensures same_err { err self.new ≡ err self.old }
         ensures count { fault_count self.old ≤ fault_count self.new };
 
-    /// Writes the whole piece to standard error, or fails and has written a part of it.
+    /// Writes the whole piece to standard error, or fails as `Failed` and has written a part of it,
+    /// which may be none or all. A fault is counted.
     fn write_err(&mut self, piece: &[u8]) -> Result<(), EdgeError>
         ensures ok { OnOk result (err self.new ≡ option_map (λ bytes. bytes ++ piece.now) (err self.old)) }
         ensures error { IfErr result (λ e. e ≡ EdgeError.Failed) }
         ensures failed { OnErr result (HasRisen (fault_count self.old) (fault_count self.new)) }
-        ensures part { OnErr result ((n : ℕ) × (err self.new ≡ option_map (λ bytes. bytes ++ take n piece.now) (err self.old))) }
+        ensures part { OnErr result ((n : ℕ)
+            × (err self.new ≡ option_map (λ bytes. bytes ++ take n piece.now) (err self.old))) }
         ensures same_files { files self.new ≡ files self.old }
         ensures same_out { out self.new ≡ out self.old }
         ensures count { fault_count self.old ≤ fault_count self.new };

@@ -1,5 +1,5 @@
 use Rattle.std.proofs.Common.{Some, sym, ap, ◌∙◌, arith}
-use Rattle.edge_core.specs.Door.{BoundedLink}
+use Rattle.edge_core.specs.LinkInside.{BoundedLink}
 use Rattle.edge_core.proofs.Written.{written-ended, written-open, written-after_open, written-after_ended}
 use Rattle.edge_core.proofs.memory_door.MemoryDoor.written.Goals as goal
 

@@ -1,2 +1,0 @@
-mod door;
-mod world;
