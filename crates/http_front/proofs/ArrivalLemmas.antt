@@ -7,7 +7,6 @@ use Rattle.httparse.specs.Spans.{RequestOverflows}
 use Rattle.httparse.proofs.GrammarLemmas.{ReadsRequest-append}
 use Rattle.http_front.specs.Front.{HasHeadOf, IsUnfinished}
 use Rattle.http_front.specs.Arrival.{BeginsWithHead, HasNoHead, LacksHead, NeverHasHead, HasRequest}
-use Rattle.http_front.proofs.CutLemmas.{may_become}
 
 HasHeadOf-append : (buf more : List ℕ) (len : ℕ) (body : Option ℕ) → HasHeadOf buf len body → HasHeadOf (buf ++ more) len body
 HasHeadOf-append buf more len body x =
@@ -43,11 +42,9 @@ HasNoHead-take bytes none head rest x =
     (x.reads.0, ap (take 65536) x.reads.1 ∙ take_front 65536 (print_request head) rest x.size)
 
 pub unfinished_partial : (bytes : List ℕ) → IsUnfinished (take 65536 bytes) → length bytes < 65536 → LacksHead bytes
-unfinished_partial bytes x room = record {
-  none = HasNoHead-take bytes x.none;
-  room = room;
-  is_open = may_become bytes (subst MayBecomeRequest (take_all 65536 bytes (omega arith)) x.may);
-}
+unfinished_partial bytes x room =
+    let all : take 65536 bytes ≡ bytes = take_all 65536 bytes (omega arith) in
+    record { none = subst HasNoRequest all x.none; room = room; is_open = subst MayBecomeRequest all x.may }
 
 pub unfinished_refused : (bytes : List ℕ) → IsUnfinished (take 65536 bytes) → 65536 ≤ length bytes → NeverHasHead bytes
 unfinished_refused bytes x full = record { none = HasNoHead-take bytes x.none; never = inl full }

@@ -36,10 +36,23 @@ head_decides bytes head rest b (whole body r) a =
 head_decides bytes head rest b partial (inl a) =
     sym (same_after bytes head a.head rest a.rest b a.begins
     ∙ ap (λ (n : Option ℕ). arrival_after n a.rest) a.taken ∙ after_lacks a.size a.rest a.lacks)
-head_decides bytes head rest b partial (inr a) = absurd (a.none head rest b)
+head_decides bytes head rest b partial (inr a) = absurd (a.none head rest b.reads)
 head_decides bytes head rest b refused (inl a) =
     sym (same_after bytes head a.head rest a.rest b a.begins ∙ ap (λ (n : Option ℕ). arrival_after n a.rest) a.other)
 head_decides bytes head rest b refused (inr a) = absurd (a.none head rest b)
+
+-- a head that isn't too large stands at the front
+abbrev HasBoundedHead : List ℕ → Type 0
+HasBoundedHead bytes = (head : RequestHead) × (rest : List ℕ) × BeginsWithHead bytes head rest
+
+-- an arrival shows such a head, or the head that stands there is too large
+shows_bounded : (bytes : List ℕ) (x : Arrival) → HasHead bytes → Arrives bytes x
+    → HasBoundedHead bytes ⊎ (x ≡ refused)
+shows_bounded bytes (whole body rest) h a = inl (a.head, body ++ rest, a.begins)
+shows_bounded bytes partial h (inl a) = inl (a.head, a.rest, a.begins)
+shows_bounded bytes partial h (inr a) = absurd (a.none h.0 h.1 h.2)
+shows_bounded bytes refused h (inl a) = inl (a.head, a.rest, a.begins)
+shows_bounded bytes refused h (inr a) = inr refl
 
 -- what bytes without a head are, where one can still come
 abbrev without_head : List ℕ → Arrival
@@ -47,7 +60,7 @@ without_head bytes = if nat_le 65536 (length bytes) then refused else partial
 
 -- an arrival shows a head, or there's none
 shows_head : (bytes : List ℕ) (x : Arrival) → MayBecomeHead bytes → Arrives bytes x
-    → HasHead bytes ⊎ (x ≡ without_head bytes)
+    → HasBoundedHead bytes ⊎ (x ≡ without_head bytes)
 shows_head bytes (whole body rest) may a = inl (a.head, body ++ rest, a.begins)
 shows_head bytes partial may (inl a) = inl (a.head, a.rest, a.begins)
 shows_head bytes partial may (inr a) = inr (rw (lt-leb 65536 (length bytes) a.room) refl)
@@ -55,17 +68,22 @@ shows_head bytes refused may (inl a) = inl (a.head, a.rest, a.begins)
 shows_head bytes refused may (inr a) =
     elim a.never [ inl full ↦ inr (rw (le-leb 65536 (length bytes) full) refl) | inr never ↦ absurd (never may) ]
 
-once_with_head : (bytes : List ℕ) (x y : Arrival) → HasHead bytes → Arrives bytes x → Arrives bytes y → x ≡ y
+once_with_head : (bytes : List ℕ) (x y : Arrival) → HasBoundedHead bytes → Arrives bytes x → Arrives bytes y → x ≡ y
 once_with_head bytes x y h a b =
     head_decides bytes h.0 h.1 h.2 x a ∙ sym (head_decides bytes h.0 h.1 h.2 y b)
 
+-- where both are the one arrival without a head that isn't too large, or show such a head
+once_or : (bytes : List ℕ) (x y z : Arrival) → Arrives bytes x → Arrives bytes y
+    → HasBoundedHead bytes ⊎ (x ≡ z) → HasBoundedHead bytes ⊎ (y ≡ z) → x ≡ y
+once_or bytes x y z a b (inl h) q = once_with_head bytes x y h a b
+once_or bytes x y z a b (inr p) (inl h) = once_with_head bytes x y h a b
+once_or bytes x y z a b (inr p) (inr q) = p ∙ sym q
+
 pub arrives_once : ArrivesOnce
-arrives_once bytes x y (inl h) a b = once_with_head bytes x y h a b
+arrives_once bytes x y (inl h) a b =
+    once_or bytes x y refused a b (shows_bounded bytes x h a) (shows_bounded bytes y h b)
 arrives_once bytes x y (inr may) a b =
-    elim (shows_head bytes x may a) [
-      | inl h ↦ once_with_head bytes x y h a b
-      | inr p ↦ elim (shows_head bytes y may b) [ inl h ↦ once_with_head bytes x y h a b | inr q ↦ p ∙ sym q ]
-    ]
+    once_or bytes x y (without_head bytes) a b (shows_head bytes x may a) (shows_head bytes y may b)
 
 pub whole_is_only : WholeIsOnly
 whole_is_only bytes body rest other a b =

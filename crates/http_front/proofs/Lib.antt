@@ -1,4 +1,3 @@
 pub mod ArrivalLemmas
-pub mod CutLemmas
 pub mod LawLemmas
 pub mod NumberLemmas

@@ -1,8 +1,6 @@
 -- What the bytes of a link that have come so far are.
-use Rattle.std.specs.Prelude.{◌≡◌, ℕ, ◌<◌, ◌≤◌, ◌⊎◌, List, ◌∷◌, ◌++◌, length, IsTrue, Some, None}
-use Rattle.std.specs.List.{flat_map}
-use Rattle.httparse.specs.Ascii.{space}
-use Rattle.httparse.specs.Grammar.{is_token_byte, print_blank, print_version, print_end, print_field, RequestHead, IsRequestHead, print_request, ReadsRequest, EndsInTarget}
+use Rattle.std.specs.Prelude.{◌≡◌, ℕ, ◌<◌, ◌≤◌, ◌⊎◌, List, ◌++◌, length, Some, None}
+use Rattle.httparse.specs.Grammar.{RequestHead, print_request, ReadsRequest, HasNoRequest, MayBecomeRequest}
 use Rattle.http_front.specs.Head.{body_length}
 
 pub data Arrival : Type 0 where
@@ -31,23 +29,6 @@ pub record MayBecomeHead (bytes : List ℕ) : Type 0 where
   pub reads : ReadsRequest (bytes ++ more) head rest
   pub fields : length head.fields ≤ 64
 
--- the bytes of a head up to the end of its last field line
-abbrev pub print_lines : RequestHead → List ℕ
-print_lines h =
-    print_blank h.blank
-    ++ h.method ++ space ∷ h.target ++ space ∷ print_version h.minor ++ print_end h.line_end
-    ++ flat_map print_field h.fields
-
--- a start line and 64 field lines have come, and the first byte of one more field's name
-pub record PassesFields (bytes : List ℕ) : Type 0 where
-  pub head : RequestHead
-  pub next : ℕ
-  pub more : List ℕ
-  pub valid : IsRequestHead head
-  pub count : length head.fields ≡ 64
-  pub reads : bytes ≡ print_lines head ++ next ∷ more
-  pub name : IsTrue (is_token_byte next)
-
 -- a head that is taken, its whole body, and then these bytes
 pub record HasRequest (bytes body rest : List ℕ) : Type 0 where
   pub head : RequestHead
@@ -63,15 +44,12 @@ pub record LacksBody (bytes : List ℕ) : Type 0 where
   pub taken : body_length head ≡ Some size
   pub lacks : length rest < size
 
--- the bytes can still become a head, the target is still being read, or one field too many has begun
-abbrev pub IsOpen : List ℕ → Type 0
-IsOpen bytes = MayBecomeHead bytes ⊎ EndsInTarget bytes ⊎ PassesFields bytes
-
--- no head yet, and there is room for the rest of it
+-- no head yet, of however many fields, and room for the rest of one: one can come, or the target is
+-- still being read
 pub record LacksHead (bytes : List ℕ) : Type 0 where
-  pub none : HasNoHead bytes
+  pub none : HasNoRequest bytes
   pub room : length bytes < 65536
-  pub is_open : IsOpen bytes
+  pub is_open : MayBecomeRequest bytes
 
 -- a head that isn't taken
 pub record HasOtherHead (bytes : List ℕ) : Type 0 where

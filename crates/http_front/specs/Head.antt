@@ -27,7 +27,8 @@ number_of digits =
 
 -- a length is written in 1 to 18 digits
 abbrev pub written_length : List ℕ → Option ℕ
-written_length value = if nat_le 1 (length value) && nat_le (length value) 18 then number_of value else None
+written_length value =
+    if nat_le 1 (length value) && nat_le (length value) 18 then number_of value else None
 
 -- the length where one field alone gives it
 abbrev pub only_length : List (List ℕ) → Option ℕ

@@ -10,7 +10,8 @@ pub fn whole_stays()
     ensures { WholeStays }
 {}
 
-/// Two different answers to the same bytes are possible only where no head can come of them.
+/// There is one answer to bytes at whose front a head stands, or one of at most 64 fields can still
+/// come.
 pub fn arrives_once()
     ensures { ArrivesOnce }
 {}

@@ -5,8 +5,6 @@ mod fields;
 mod laws;
 mod reply;
 mod request;
-#[cfg(test)]
-mod tests;
 
 pub use laws::{arrives_once, whole_is_only, whole_stays};
 pub use reply::print_reply;

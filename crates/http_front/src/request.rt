@@ -40,7 +40,8 @@ enum Front {
 ///
 /// A head (RFC 9112) of at most 64 fields and 65,536 bytes is taken where it asks for
 /// `POST /check HTTP/1.1` and one field `Content-Length`, of at most 262,144, gives the length of
-/// the body; fields named `Transfer-Encoding` or `Connection` aren't taken.
+/// the body; fields named `Transfer-Encoding` or `Connection` aren't taken. Each other head is
+/// refused with 400 (Bad Request), and so are bytes that can't become such a head, once that is seen.
 pub fn next_request(bytes: &[u8]) -> Next<'_>
     ensures arrives { Arrives bytes.now (arrival_of bytes.now result) }
     ensures used { UsesAtMost (length bytes.now) result }

@@ -1,12 +1,12 @@
 -- What was read loosely so far, before what is left, and what its order is.
-use Rattle.std.proofs.Common.{◌≡◌, ℕ, List, [], ◌∷◌, ◌++◌, Bool, true, false, cond, Option, Some, None, IfSome, option_map, map, refl, sym, ap, ◌∙◌, subst}
+use Rattle.std.proofs.Common.{◌≡◌, ℕ, List, [], ◌∷◌, ◌++◌, Bool, true, false, cond, Some, None, option_map, map, refl, sym, ap, ◌∙◌, subst}
 use Rattle.std.specs.Str.{IsUtf8, is_utf8}
 use Rattle.std.proofs.lemmas.List.{map-append}
 use Rattle.std.proofs.lemmas.Str.{IsUtf8-from_is_utf8, is_utf8-from_IsUtf8}
 use Rattle.serde_json.specs.Data as json
 use Rattle.serde_json.specs.Data.{Data, Items}
 use Rattle.serde_json.specs.Read.{read}
-use Rattle.snap_core.specs.Value.{Value, Parts, part, Members, member, IsOrdered, AreOrdered, HaveOrder, ComesBefore}
+use Rattle.snap_core.specs.Value.{Value, part, member, IsOrdered, AreOrdered, AreOrderedMembers, ComesBefore, keys_of}
 use Rattle.snap_core.specs.declared.snap.Snap.{Snap}
 use Rattle.snap_core.specs.declared.snap.Field.{Field}
 use Rattle.snap_core.specs.View.{view, entry}
@@ -31,7 +31,7 @@ loose_member done new f k v d ms longer seen is =
     ∙ ap (λ es. members_before es (loose_members ms)) (sym (ap (map entry) longer ∙ map-append entry done (f ∷ []) ∙ ap (λ e. map entry done ++ e ∷ []) seen))
 
 -- a key before all members comes before them as they are read
-before_loose : (k : List ℕ) (ms : json.Members) → AllAbove k ms → ComesBefore k (loose_members ms)
+before_loose : (k : List ℕ) (ms : json.Members) → AllAbove k ms → ComesBefore k (keys_of (loose_members ms))
 before_loose k json.no_members above = tt
 before_loose k (json.member l d ms) above = above.0
 
@@ -48,7 +48,7 @@ mutual
   ordered_loose_items json.no_items h = tt
   ordered_loose_items (json.item d ds) h = (ordered_loose d h.0, ordered_loose_items ds h.1)
 
-  ordered_loose_members : (ms : json.Members) → Ascends ms → HaveOrder (loose_members ms)
+  ordered_loose_members : (ms : json.Members) → Ascends ms → AreOrderedMembers (loose_members ms)
   ordered_loose_members json.no_members h = tt
   ordered_loose_members (json.member k d ms) h = (ordered_loose d h.0, before_loose k ms h.1, ordered_loose_members ms h.2)
 

@@ -10,7 +10,7 @@ use Rattle.serde_json.specs.Find.{as_integer, of_integer, is_float}
 use Rattle.serde_json.specs.View.{items_of as array_of}
 use Rattle.serde_json.specs.Written.{has_float, items_have_float, members_have_float}
 use Rattle.snap_core.specs.declared.snap.Snap.{Snap}
-use Rattle.snap_core.specs.Value.{Value, null, boolean, integer, text, list, dict, Parts, no_parts, part, Members, no_members, member, IsPlain, ArePlain, AreAscending, depth_of, parts_depth, members_depth as record_depth}
+use Rattle.snap_core.specs.Value.{Value, null, boolean, integer, text, list, dict, Parts, no_parts, part, Members, no_members, member, IsPlain, ArePlain, ArePlainMembers, depth_of, parts_depth, members_depth as record_depth}
 use Rattle.snap_core.specs.View.{view, items_view}
 use Rattle.snap_json.specs.Printing.{data_of, items_data, members_data, built_of, items_built, members_built}
 use Rattle.snap_json.specs.Reading.{under, mapped, joined, value_of, items_of, members_of}
@@ -53,7 +53,7 @@ AllBelow-last : (done : json.Members) (k m : List ℕ) (d : Data) → AllBelow d
 AllBelow-last json.no_members k m d below first = (first, tt)
 AllBelow-last (json.member l e ms) k m d below first = (nat_list_cmp_total.trans l k m below.0 first, AllBelow-last ms k m d below.1 first)
 
-EndsBefore-last : (done : json.Members) (k : List ℕ) (d : Data) (ms : Members (Unit {0})) (v : Value) → AllBelow done k → AreAscending (member k v ms) → EndsBefore (followed_by done (json.member k d json.no_members)) ms
+EndsBefore-last : (done : json.Members) (k : List ℕ) (d : Data) (ms : Members (Unit {0})) (v : Value) → AllBelow done k → ArePlainMembers (member k v ms) → EndsBefore (followed_by done (json.member k d json.no_members)) ms
 EndsBefore-last done k d no_members v below plain = tt
 EndsBefore-last done k d (member m w ms) v below plain = AllBelow-last done k m d below plain.1
 
@@ -70,7 +70,7 @@ mutual
   items_built-plain no_parts plain = refl
   items_built-plain (part v ps) plain = ap₂ json.item (built_of-plain v plain.0) (items_built-plain ps plain.1)
 
-  members_built-plain : (ms : Members (Unit {0})) → AreAscending ms → (done : json.Members) → EndsBefore done ms → members_built ms done ≡ followed_by done (members_data ms)
+  members_built-plain : (ms : Members (Unit {0})) → ArePlainMembers ms → (done : json.Members) → EndsBefore done ms → members_built ms done ≡ followed_by done (members_data ms)
   members_built-plain no_members plain done before = followed_by-none done
   members_built-plain (member k v ms) plain done before =
       ap (λ d. members_built ms (put k d done)) (built_of-plain v plain.0) ∙ ap (members_built ms) (put-last k (data_of v) done before)
@@ -140,6 +140,6 @@ mutual
   items_of-items_data i no_parts plain = refl
   items_of-items_data i (part v ps) plain = ap₂ (λ r s. joined part (under (decimal i) r) s) (value_of-data_of v plain.0) (items_of-items_data (i + 1) ps plain.1)
 
-  members_of-members_data : (ms : Members (Unit {0})) → AreAscending ms → members_of (members_data ms) ≡ Ok ms
+  members_of-members_data : (ms : Members (Unit {0})) → ArePlainMembers ms → members_of (members_data ms) ≡ Ok ms
   members_of-members_data no_members plain = refl
   members_of-members_data (member k v ms) plain = ap₂ (λ r s. joined (member k) (under k r) s) (value_of-data_of v plain.0) (members_of-members_data ms plain.2)

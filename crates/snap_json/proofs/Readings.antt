@@ -7,7 +7,7 @@ use Rattle.std.proofs.lemmas.Str.{IsUtf8-from_is_utf8, is_utf8-from_IsUtf8}
 use Rattle.serde_json.specs.Data as json
 use Rattle.serde_json.specs.Data.{Num, Data, Items, depth, items_depth, members_depth}
 use Rattle.serde_json.specs.Read.{read}
-use Rattle.snap_core.specs.Value.{Value, integer, list, dict, Parts, part, Members, member, IsPlain, ArePlain, AreAscending, ComesBefore, is_whole, depth_of, parts_depth, members_depth as record_depth}
+use Rattle.snap_core.specs.Value.{Value, integer, list, dict, Parts, part, Members, member, IsPlain, ArePlain, ArePlainMembers, ComesBefore, keys_of, is_whole, depth_of, parts_depth, members_depth as record_depth}
 use Rattle.pointer_core.specs.Path.{Path}
 use Rattle.snap_json.specs.declared.read.ReadError.{ReadError}
 use Rattle.snap_json.specs.declared.read.ReadError.TheVariants.{Memory, Syntax, Whole}
@@ -38,7 +38,7 @@ plain_number (json.float x) = tt
 
 -- ascending, and after each key that all the members come after
 abbrev FollowsMembers : json.Members → Members (Unit {0}) → Type 0
-FollowsMembers ms found = AreAscending found × ((k : List ℕ) → AllAbove k ms → ComesBefore k found)
+FollowsMembers ms found = ArePlainMembers found × ((k : List ℕ) → AllAbove k ms → ComesBefore k (keys_of found))
 
 mutual
   plain-value_of : (d : Data) → IsOrdered d → IfOk (value_of d) IsPlain

@@ -4,6 +4,12 @@ use Rattle.pointer_core.specs.Path.{Path}
 use Rattle.snap_json.specs.declared.read.ReadError.{ReadError}
 use Rattle.snap_json.specs.declared.read.ReadError.TheVariants.{Memory, Syntax, Whole}
 
+-- P, where memory ran out; for private clauses
+abbrev pub IfMemory : ReadError → Type 0 → Type 0
+IfMemory Memory P = P
+IfMemory Syntax P = ⊤
+IfMemory (Whole path) P = ⊤
+
 -- P, where the bytes are no JSON
 abbrev pub IfSyntax : ReadError → Type 0 → Type 0
 IfSyntax Memory P = ⊤

@@ -9,7 +9,8 @@ use Rattle.serde_json.specs.Read.{read}
 use Rattle.snap_core.specs.Value.{Value, null, boolean, integer, text, list, dict, Parts, no_parts, part, Members, no_members, member, is_whole}
 use Rattle.pointer_core.specs.Path.{Path}
 
--- what reading bytes comes to: the value that they spell, the place of the first number in them that isn't whole, or nothing
+-- what reading bytes comes to: the value that they spell, the place of the first number in them that
+-- isn't whole, or nothing
 pub data Reading : Type 0 where
   value : Value → Reading
   unwhole : Path → Reading

@@ -8,6 +8,3 @@ mod read;
 pub use loose::read_loosely;
 pub use print::print_snap;
 pub use read::{ReadError, read_snap};
-
-#[cfg(test)]
-mod tests;

@@ -5,7 +5,7 @@ ghost use Rattle.snap_core.specs.Value.{IsOrdered};
 ghost use Rattle.snap_core.specs.View.{view, items_view, fields_view};
 ghost use Rattle.snap_json.specs.Loose.{loosely, loose_value, loose_items, loose_members};
 
-use crate::read::{ran_out, whole_number};
+use crate::read::whole_number;
 use list_core::Parts;
 use serde_json::{Map, Value};
 use snap_core::{Field, Fields, Items, Snap, Txt};
@@ -15,14 +15,15 @@ use std::alloc::{AllocError, Global};
 const NOT_WHOLE: i64 = 9_007_199_254_740_992;
 
 /// The value that bytes of JSON spell, with 9007199254740992 for each number that isn't whole, or
-/// None where they are no JSON in UTF-8. For readers that name the place of such a number.
+/// None where they are no JSON in UTF-8, as `serde_json` reads it: of at most 127 levels, and with no
+/// number past a double. For readers that name the place of a number that isn't whole.
 pub fn read_loosely(alloc: Global, bytes: &[u8]) -> Result<Option<Snap>, AllocError>
     ensures value { IfOk result (λ found. option_map view found ≡ loosely bytes.now) }
     ensures ordered { IfOk result (λ found. IfSome found (λ snap. IsOrdered (view snap))) }
 {
     match Value::from_slice(alloc, bytes) {
         Ok(value) => Ok(Some(loosened(alloc, &value)?)),
-        Err(error) if ran_out(&error) => Err(AllocError),
+        Err(error) if error.is_memory() => Err(AllocError),
         Err(_) => Ok(None),
     }
 }
@@ -54,7 +55,8 @@ fn loosened_items(alloc: Global, items: &[Value]) -> Result<Items, AllocError>
 
 #[cycle(loosen)]
 fn loosened_fields(alloc: Global, members: &Map<String, Value>) -> Result<Fields, AllocError>
-    ensures { IfOk result (λ fields. fields_view fields ≡ loose_members (data_members members.now.entries)) }
+    ensures { IfOk result
+        (λ fields. fields_view fields ≡ loose_members (data_members members.now.entries)) }
 {
     let mut fields = Parts::new(alloc);
     for (key, member) in members.iter() {

@@ -11,7 +11,7 @@ use serde_json::{Map, Value};
 use snap_core::{Bytes, Fields, Items, Snap};
 use std::alloc::{AllocError, Global};
 
-/// The compact JSON text of a value.
+/// The compact JSON text of a value. It reads back as that value where it is at most 127 levels deep.
 pub fn print_snap(alloc: Global, snap: &Snap) -> Result<Bytes, AllocError>
     requires { IsPlain (view snap.now) }
     ensures text { IfOk result (λ bytes. bytes ≡ json_text (view snap.now)) }
@@ -19,7 +19,7 @@ pub fn print_snap(alloc: Global, snap: &Snap) -> Result<Bytes, AllocError>
         → reading bytes ≡ value (view snap.now)) }
 {
     let text = value_of(alloc, snap)?.to_vec(alloc)?;
-    Parts::from_slice(alloc, &text)
+    Ok(Parts::from_vec(text))
 }
 
 #[cycle(build)]

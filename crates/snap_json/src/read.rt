@@ -1,27 +1,25 @@
-ghost use Rattle.std.specs.Prelude.{◌≡◌, ◌≤◌, false, ◌∷◌, Option, Result, IfOk, IfErr, decimal};
+ghost use Rattle.std.specs.Prelude.{◌≡◌, ◌≤◌, Option, Result, IfOk, IfErr, decimal};
 ghost use Rattle.serde_json.specs.View.{number_view, view as data_view, items_view as data_items, members_view as data_members};
 ghost use Rattle.serde_json.specs.Errors.{IsMemory};
 ghost use Rattle.snap_core.specs.Value.{Value as Plain, IsPlain, depth_of};
 ghost use Rattle.snap_core.specs.View.{view, items_view, fields_view};
 ghost use Rattle.pointer_core.specs.Path.{Path};
-ghost use Rattle.snap_json.specs.Fault.{IfSyntax, IfWhole, IsFaultOf};
+ghost use Rattle.snap_json.specs.Fault.{IfMemory, IfSyntax, IfWhole, IsFaultOf};
 ghost use Rattle.snap_json.specs.Reading.{reading, value, unwhole, syntax, whole_of, value_of, items_of, members_of, under};
 
 use list_core::Parts;
 use pointer_core::Pointer;
-use serde_json::{Category, Error, Map, Number, Value};
-use snap_core::{Field, Fields, Items, Snap, Txt};
+use serde_json::{Error, Map, Number, Value};
+use snap_core::{Field, Fields, Items, Snap, Txt, is_whole};
 use std::alloc::{AllocError, Global};
-
-/// The greatest integer of a value, and the least one without its sign.
-const MOST: i128 = 9_007_199_254_740_991;
 
 /// Why bytes are no value.
 #[derive(Debug, Drop, thiserror::Error)]
 pub enum ReadError {
     #[error("out of memory")]
     Memory,
-    /// The bytes are no JSON in UTF-8.
+    /// The bytes are no JSON in UTF-8, as `serde_json` reads it: of at most 127 levels, and with no
+    /// number past a double.
     #[error("no JSON")]
     Syntax,
     /// The first number that isn't whole, or past what a value holds, stands here.
@@ -44,45 +42,48 @@ pub fn whole_number(number: &Number) -> Option<i64>
     ensures { result ≡ whole_of (number_view number.now) }
 {
     match number.as_i128() {
-        Some(n) if -MOST <= n && n <= MOST => Some(n as i64),
+        Some(n) if is_whole(n) => Some(n as i64),
         _ => None,
     }
 }
 
-fn moved_down(alloc: Global, token: &str, mut path: Pointer) -> Result<Pointer, AllocError>
-    ensures { IfOk result (λ longer. longer ≡ token.now ∷ path) }
+// A number at this place isn't whole, or memory ran out while the place was made.
+fn at_path(path: Result<Pointer, AllocError>) -> ReadError
+    ensures { (found : Result Plain Path) → IfOk path (λ p. found ≡ Err p) → IsFaultOf result found }
 {
-    path.push_front(Txt::copy(alloc, token)?)?;
-    Ok(path)
+    match path {
+        Ok(path) => ReadError::Whole { path },
+        Err(_) => ReadError::Memory,
+    }
 }
 
 impl ReadError {
-    fn under(self, alloc: Global, token: &str) -> ReadError
+    fn under(self, token: &str) -> ReadError
         ensures { (found : Result Plain Path) → IsFaultOf self found
             → IsFaultOf result (under token.now found) }
     {
         match self {
             ReadError::Memory => ReadError::Memory,
             ReadError::Syntax => ReadError::Syntax,
-            ReadError::Whole { path } => match moved_down(alloc, token, path) {
-                Ok(path) => ReadError::Whole { path },
-                Err(_) => ReadError::Memory,
-            },
+            ReadError::Whole { path } => at_path(path.under(token)),
         }
     }
 
-    fn under_index(self, alloc: Global, index: usize) -> ReadError
+    fn under_index(self, index: usize) -> ReadError
         ensures { (found : Result Plain Path) → IsFaultOf self found
             → IsFaultOf result (under (decimal index) found) }
     {
-        match format!(in alloc; "{index}") {
-            Ok(token) => self.under(alloc, token.as_str()),
-            Err(_) => ReadError::Memory,
+        match self {
+            ReadError::Memory => ReadError::Memory,
+            ReadError::Syntax => ReadError::Syntax,
+            ReadError::Whole { path } => at_path(path.under_index(index)),
         }
     }
 }
 
 /// The value that bytes of JSON spell. Where a key stands twice in one object, its last value counts.
+/// The first number that isn't whole is the first in document order, in which an object's entries go
+/// by ascending keys.
 pub fn read_snap(alloc: Global, bytes: &[u8]) -> Result<Snap, ReadError>
     ensures ok { IfOk result (λ snap. reading bytes.now ≡ value (view snap)) }
     ensures plain { IfOk result (λ snap. IsPlain (view snap)) }
@@ -97,21 +98,15 @@ pub fn read_snap(alloc: Global, bytes: &[u8]) -> Result<Snap, ReadError>
 }
 
 fn refusal(error: &Error) -> ReadError
+    ensures memory { IfMemory result (IsMemory error.now) }
     ensures syntax { IfSyntax result (¬ IsMemory error.now) }
     ensures whole { IfWhole result (λ _. ⊥) }
 {
-    if ran_out(error) {
+    if error.is_memory() {
         ReadError::Memory
     } else {
         ReadError::Syntax
     }
-}
-
-/// Whether it was memory that stopped the reading.
-pub fn ran_out(error: &Error) -> bool
-    ensures { result ≡ false → ¬ IsMemory error.now }
-{
-    matches!(error.classify(), Category::Memory)
 }
 
 #[cycle(read)]
@@ -143,7 +138,7 @@ fn list_of(alloc: Global, items: &[Value]) -> Result<Items, ReadError>
     for (index, item) in items.iter().enumerate() {
         match snap_of(alloc, item) {
             Ok(snap) => list.push(snap)?,
-            Err(error) => return Err(error.under_index(alloc, index)),
+            Err(error) => return Err(error.under_index(index)),
         }
     }
     Ok(list)
@@ -162,7 +157,7 @@ fn fields_of(alloc: Global, members: &Map<String, Value>) -> Result<Fields, Read
                 key: Txt::copy(alloc, key.as_str())?,
                 value,
             })?,
-            Err(error) => return Err(error.under(alloc, key.as_str())),
+            Err(error) => return Err(error.under(key.as_str())),
         }
     }
     Ok(fields)

@@ -1,4 +1,5 @@
-use Rattle.std.proofs.Common.{◌≡◌, Some, sym, ap, ◌∙◌}
+use Rattle.std.proofs.Common.{Some, sym, ap, ◌∙◌}
+use Rattle.serde_json.specs.Errors.{IsMemory}
 use Rattle.serde_json.specs.View.{view as data_view}
 use Rattle.snap_core.specs.View.{view}
 use Rattle.snap_json.proofs.Loosenings.{loosely-utf8, loosely-refused, loosely-ordered}
@@ -13,4 +14,6 @@ pub returns-in_ok-loosened-in-Ok-clause-ordered : goal.returns-in_ok-loosened-in
 returns-in_ok-loosened-in-Ok-clause-ordered c = loosely-ordered c.args.bytes.now (data_view c.in-Ok.value) (view c.in_ok-loosened-in-Ok.field-0) c.in-Ok.ensures.ok.1 c.in_ok-loosened-in-Ok.ensures
 
 pub returns-in-Err-2-clause-value : goal.returns-in-Err-2-clause-value
-returns-in-Err-2-clause-value c = sym (loosely-refused c.args.bytes.now (c.in-Err.ensures.err (c.ran_out.ensures c.if-ran_out.false)))
+returns-in-Err-2-clause-value c =
+    let had_memory : ¬ IsMemory c.in-Err.error = λ ran_out. cc (c.is_memory.ensures.1 ran_out, c.if-is_memory.false) in
+    sym (loosely-refused c.args.bytes.now (c.in-Err.ensures.err had_memory))
