@@ -1,5 +1,5 @@
 -- What is made is made again as it is, is plain, and is within the limits.
-use Rattle.std.proofs.Common.{◌≡◌, ℕ, List, [], Bool, true, false, IsTrue, Option, Some, None, Result, Ok, Err, IfSome, IfOk, IsErrAnd, MatchResult, if◌then◌else◌, refl, sym, ap, subst}
+use Rattle.std.proofs.Common.{◌≡◌, ℕ, List, [], ◌∷◌, Bool, true, false, IsTrue, Option, Some, None, Result, Ok, Err, IfSome, IfOk, IsErrAnd, MatchResult, if◌then◌else◌, refl, sym, ap, subst}
 use Rattle.std.specs.declared.cmp.Ordering.TheVariants.{Less}
 use Rattle.std.specs.Borrow.{Bor}
 use Rattle.std.specs.Str.{bytes_eq}
@@ -9,16 +9,14 @@ use Rattle.std.proofs.lemmas.Option.{slice_get_within, get_or_from_slice_get}
 use Rattle.pointer_core.specs.declared.refusal.Rule.TheVariants.{Large}
 use Rattle.snap_core.specs.declared.snap.Snap.{Snap}
 use Rattle.snap_core.specs.declared.number.TypeNo.{TypeNo}
-use Rattle.snap_core.specs.Value as value
-use Rattle.snap_core.specs.Value.{Value, null, boolean, integer, text, list, dict, Parts, no_parts, part, Members, no_members, member, IsPlain, ArePlain, AreAscending}
+use Rattle.snap_core.specs.Value.{Value, null, Parts, no_parts, Members, no_members, member, ComesBefore, keys_of, value_at, IsPlain, ArePlain, ArePlainMembers}
 use Rattle.snap_core.specs.View.{view}
 use Rattle.type_core.specs.declared.making.MakeError.{MakeError}
 use Rattle.type_core.specs.declared.making.MakeError.TheVariants.{Memory, Refused}
 use Rattle.type_core.specs.declared.shape.Shape.{Shape}
 use Rattle.type_core.specs.declared.shape.Shape.TheVariants.{Optional}
 use Rattle.type_core.specs.declared.shape.Property.{Property}
-use Rattle.type_core.specs.Table.{Table, Catalog, shape_at, properties_of, plan_of, ComesBefore, AreNamed, IsShapeOf}
-use Rattle.snap_core.specs.Value.{value_at}
+use Rattle.type_core.specs.Table.{Table, Catalog, shape_at, properties_of, plan_of, names_of, AreNamed, IsShapeOf}
 use Rattle.type_core.specs.Judging.{is_null}
 use Rattle.type_core.specs.Making.{Outcome, made_by, is_within, limited, making}
 use Rattle.type_core.specs.Makes.{IsMaybe, Makes, string, whole, truth, nothing, literal, enumeration, frozen, frozen_absent, optional, optional_absent, maybe_of_null, maybe_absent, maybe_other, union, refinement, array, array_absent, map, map_absent, model, name, MakesItems, no_items, one_item, MakesValues, no_values, one_value, MakesEach, no_more, one_more, MakesWithin}
@@ -31,24 +29,23 @@ use Rattle.type_core.proofs.Choosing.{chosen-again}
 use Rattle.type_core.proofs.Laws.{is_null-null, other-is_null, made_by-sound, made_by-complete}
 
 -- each value of a plain record is plain, if there is one
-pub IfSome-value_at : (key : List ℕ) (ms : Members (Unit {0})) → AreAscending ms → IfSome (value_at key ms) IsPlain
+pub IfSome-value_at : (key : List ℕ) (ms : Members (Unit {0})) → ArePlainMembers ms → IfSome (value_at key ms) IsPlain
 IfSome-value_at key ms plain = by_value (value_at key ms) refl
   where
     by_value : (x : Option Value) → value_at key ms ≡ x → IfSome x IsPlain
     by_value None e = tt
     by_value (Some v) e = IsPlain-value_at key ms v plain e
 
--- a name before the properties' comes before the keys that are made of them
-pub ComesBefore-made : (table : Table) (key : List ℕ) (given : Members (Unit {0})) (ps : List Property) (made : Members (Unit {0}))
-    → MakesEach table given ps made → ComesBefore key ps → value.ComesBefore key made
-ComesBefore-made table key _ _ _ (no_more given) before = tt
-ComesBefore-made table key _ _ _ (one_more given p ps v made one rest) before = before
+-- the keys of what a model makes are its properties' names
+pub keys-made : (table : Table) (given : Members (Unit {0})) (ps : List Property) (made : Members (Unit {0}))
+    → MakesEach table given ps made → keys_of made ≡ names_of ps
+keys-made table _ _ _ (no_more given) = refl
+keys-made table _ _ _ (one_more given p ps v made one rest) = ap (λ ks. p.name ∷ ks) (keys-made table given ps made rest)
 
--- a key before those of a record comes before the same keys
-pub ComesBefore-values : (table : Table) (t : ℕ) (key : List ℕ) (given made : Members (Unit {0}))
-    → MakesValues table t given made → value.ComesBefore key given → value.ComesBefore key made
-ComesBefore-values table _ key _ _ (no_values t) before = tt
-ComesBefore-values table _ key _ _ (one_value t k v s given made one rest) before = before
+-- the keys of what a map makes are those of the record
+pub keys-values : (table : Table) (t : ℕ) (given made : Members (Unit {0})) → MakesValues table t given made → keys_of made ≡ keys_of given
+keys-values table _ _ _ (no_values t) = refl
+keys-values table _ _ _ (one_value t k v s given made one rest) = ap (λ ks. k ∷ ks) (keys-values table t given made rest)
 
 -- a default is plain
 pub IsPlain-default : (types : Catalog) → IsSound types → (t : ℕ) (u : TypeNo) (d : Snap) → shape_at types.table t ≡ Some (Optional u d) → IsPlain (view d)
@@ -61,7 +58,7 @@ IsPlain-default types sound t u d e =
 
 -- a key that is made comes after a name before the properties'
 pub key-after : (table : Table) (first : List ℕ) (given : Members (Unit {0})) (ps : List Property) (made : Members (Unit {0}))
-    → MakesEach table given ps made → ComesBefore first ps → AreNamed ps
+    → MakesEach table given ps made → ComesBefore first (names_of ps) → AreNamed ps
     → (key : List ℕ) (w : Value) → value_at key made ≡ Some w → key_cmp first key ≡ Less
 key-after table first _ _ _ (no_more given) before named = λ key w h. cc
 key-after table first _ _ _ (one_more given p ps v made one rest) before named = λ key w h.
@@ -112,20 +109,20 @@ module _ (types : Catalog) (sound : IsSound types) where
     MakesItems-plain _ _ _ (no_items t) plain = tt
     MakesItems-plain _ _ _ (one_item t v s given made one rest) plain = (Makes-plain t (Some v) s one plain.0, MakesItems-plain t given made rest plain.1)
 
-    pub MakesValues-plain : (t : ℕ) (given made : Members (Unit {0})) → MakesValues types.table t given made → AreAscending given → AreAscending made
+    pub MakesValues-plain : (t : ℕ) (given made : Members (Unit {0})) → MakesValues types.table t given made → ArePlainMembers given → ArePlainMembers made
     MakesValues-plain _ _ _ (no_values t) plain = tt
     MakesValues-plain _ _ _ (one_value t k v s given made one rest) plain = (
       Makes-plain t (Some v) s one plain.0,
-      ComesBefore-values types.table t k given made rest plain.1,
+      subst (ComesBefore k) (sym (keys-values types.table t given made rest)) plain.1,
       MakesValues-plain t given made rest plain.2,
     )
 
     pub MakesEach-plain : (given : Members (Unit {0})) (ps : List Property) (made : Members (Unit {0}))
-        → MakesEach types.table given ps made → AreNamed ps → AreAscending given → AreAscending made
+        → MakesEach types.table given ps made → AreNamed ps → ArePlainMembers given → ArePlainMembers made
     MakesEach-plain _ _ _ (no_more given) named plain = tt
     MakesEach-plain _ _ _ (one_more given p ps v made one rest) named plain = (
       Makes-plain p.of.0 (value_at p.name given) v one (IfSome-value_at p.name given plain),
-      ComesBefore-made types.table p.name given ps made rest named.0,
+      subst (ComesBefore p.name) (sym (keys-made types.table given ps made rest)) named.0,
       MakesEach-plain given ps made rest named.1 plain,
     )
 
@@ -198,7 +195,7 @@ limited-Ok (Ok v) s h = by_test (is_within v) refl
 module _ (types : Catalog) (sound : IsSound types) where
   pub making-sound : (t : ℕ) (x : Option Value) (s : Value) → making types t x ≡ Ok s → MakesWithin types.table t x s
   making-sound t x s h =
-      let parts = limited-Ok (made_by types.table types.defaults t x) s h in (made_by-sound types.table types.defaults sound.made t x s parts.0, parts.1)
+      let parts = limited-Ok (made_by types.table types.defaults t x) s h in (made_by-sound types.table types.defaults sound.defaults.made t x s parts.0, parts.1)
 
   pub making-complete : (t : ℕ) (x : Option Value) (s : Value) → MakesWithin types.table t x s → making types t x ≡ Ok s
   making-complete t x s h = rw (made_by-complete types.table types.defaults sound.loopless sound.all t x s h.0, h.1)

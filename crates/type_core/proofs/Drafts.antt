@@ -1,6 +1,6 @@
 -- The faults of a table, pass by pass, and a table without one.
 use Rattle.std.proofs.Common.{◌≡◌, ℕ, ◌<◌, List, length, Bool, true, false, IsTrue, Option, Some, None, refl, sym, ap, ◌∙◌, subst, inl, inr, arith}
-use Rattle.std.specs.Prelude.{◌≢◌, ◌⊎◌, MatchBool, IsSome, Result, Ok, Err}
+use Rattle.std.specs.Prelude.{◌≢◌, ◌⊎◌, MatchBool, IsSome, IfOk, Result, Ok, Err}
 use Rattle.std.proofs.lemmas.Option.{slice_get_within}
 use Rattle.snap_core.specs.Value.{Value}
 use Rattle.snap_core.specs.declared.snap.Snap.{Snap}
@@ -11,14 +11,14 @@ use Rattle.pointer_core.specs.declared.schema_rule.SchemaRule.{SchemaRule}
 use Rattle.pointer_core.specs.declared.schema_rule.SchemaRule.TheVariants as rule
 use Rattle.type_core.specs.declared.rule.DraftError.{DraftError}
 use Rattle.type_core.specs.declared.rule.DraftError.TheVariants as fault
-use Rattle.type_core.specs.Table.{Table, IsBegun, plan_of, shape_at, default_at}
+use Rattle.type_core.specs.Table.{Table, Catalog, IsBegun, plan_of, shape_at, default_at}
 use Rattle.type_core.specs.Names.{LeadsTo, named_by}
 use Rattle.type_core.specs.Unions.{are_apart}
 use Rattle.type_core.specs.Making.{absent_made, default_made, absent}
 use Rattle.type_core.specs.Makes.{Makes}
 use Rattle.type_core.specs.Faults.{HasFault, name, union, «default», pass_of, order_of, Precedes, IsFirstFault, IfWrong}
-use Rattle.type_core.specs.Sound.{AreMade, AreAll, IsSound}
-use Rattle.type_core.specs.Passes.{IsFaultless, IsFirstOf, HasDefault, IsMissing}
+use Rattle.type_core.specs.Sound.{AreMade, AreAll, IsSound, HasDefault}
+use Rattle.type_core.specs.Passes.{IsFaultless, IsFirstOf, IsMissing}
 use Rattle.type_core.proofs.Chains.{named_by-at}
 use Rattle.type_core.proofs.Laws.{made_by-complete}
 
@@ -106,22 +106,6 @@ IsFaultless-type table t loopless apart rule.Twice pass = no_twice table t
 IsFaultless-type table t loopless apart rule.History pass = no_history table t
 IsFaultless-type table t loopless apart rule.Target pass = no_target table t
 
--- what comes before a rule of the first pass at its type is of the first pass
-pass_before : (other rule : SchemaRule) → pass_of rule ≡ 0 → order_of other < order_of rule → pass_of other ≡ 0
-pass_before rule.Name other pass lower = refl
-pass_before rule.Union other pass lower = refl
-pass_before rule.Shape other pass lower = refl
-pass_before rule.Twice other pass lower = refl
-pass_before rule.History other pass lower = refl
-pass_before rule.Target other pass lower = refl
-pass_before rule.Default rule.Name pass lower = absurd (omega arith)
-pass_before rule.Default rule.Union pass lower = absurd (omega arith)
-pass_before rule.Default rule.Shape pass lower = absurd (omega arith)
-pass_before rule.Default rule.Twice pass lower = absurd (omega arith)
-pass_before rule.Default rule.History pass lower = absurd (omega arith)
-pass_before rule.Default rule.Target pass lower = absurd (omega arith)
-pass_before rule.Default rule.Default pass lower = absurd (omega arith)
-
 -- the first pass as a whole
 pub first_of_pass : (table : Table) (t : ℕ) (rule : SchemaRule) → ((k : ℕ) → k < t → IsFaultless table 0 k) → IsFirstOf table 0 t rule → IsFirstFault table t rule
 first_of_pass table t rule before h = record { fault = h.fault; first = first } where
@@ -130,7 +114,7 @@ first_of_pass table t rule before h = record { fault = h.fault; first = first } 
   first u other (inr (inl earlier)) = before u earlier.1 other (earlier.0 ∙ h.of_pass)
   first u other (inr (inr same)) =
       let P : ℕ → Type 0 = λ n. ¬ (HasFault table n other) in
-      subst P (sym same.0) (h.first other (pass_before other rule h.of_pass same.1) same.1)
+      subst P (sym same.1) (h.first other (same.0 ∙ h.of_pass) same.2)
 
 pub IsFaultless-all : (table : Table) → ((k : ℕ) → k < length table.shapes → IsFaultless table 0 k) → (t : ℕ) → IsFaultless table 0 t
 IsFaultless-all table before t rule pass fault = before t (HasFault-within table t rule fault) rule pass fault
@@ -173,18 +157,21 @@ first_missing table defaults faultless made all t missing before = record { faul
   first u rule.Target earlier = no_target table u
   first u rule.Default (inl lower) = absurd (omega arith)
   first u rule.Default (inr (inl earlier)) = no_default_fault table defaults made u (before u earlier.1)
-  first u rule.Default (inr (inr same)) = absurd (omega (arith, same.1))
+  first u rule.Default (inr (inr same)) = absurd (omega (arith, same.2))
 
--- a table with no fault of the first pass, and each default
-pub no_fault : (table : Table) (defaults : List (Option Snap)) → ((t : ℕ) → IsFaultless table 0 t) → AreMade table defaults
-    → ((t : ℕ) → HasDefault table defaults t) → (t : ℕ) (rule : SchemaRule) → ¬ (HasFault table t rule)
-no_fault table defaults faultless made known t rule.Name = faultless t rule.Name refl
-no_fault table defaults faultless made known t rule.Union = faultless t rule.Union refl
-no_fault table defaults faultless made known t rule.Shape = no_shape table t
-no_fault table defaults faultless made known t rule.Twice = no_twice table t
-no_fault table defaults faultless made known t rule.History = no_history table t
-no_fault table defaults faultless made known t rule.Target = no_target table t
-no_fault table defaults faultless made known t rule.Default = no_default_fault table defaults made t (known t)
+-- types that are sound have no fault
+pub no_fault : (types : Catalog) → IsSound types → (t : ℕ) (rule : SchemaRule) → ¬ (HasFault types.table t rule)
+no_fault types sound t rule.Name = λ fault. sound.loopless t (at_name types.table t fault)
+no_fault types sound t rule.Union = λ fault.
+    let f = at_union types.table t fault in
+    let apart : are_apart types.table f.0 ≡ true = sound.apart t f.0 f.1 in
+    let no : true ≡ false = sym apart ∙ f.2 in
+    cc
+no_fault types sound t rule.Shape = no_shape types.table t
+no_fault types sound t rule.Twice = no_twice types.table t
+no_fault types sound t rule.History = no_history types.table t
+no_fault types sound t rule.Target = no_target types.table t
+no_fault types sound t rule.Default = no_default_fault types.table types.defaults sound.defaults.made t (sound.defaults.known t)
 
 told_apart : (table : Table) (t : ℕ) (ms : List TypeNo) → IsFaultless table 0 t → shape_at table t ≡ Some (Union ms)
     → (b : Bool) → are_apart table ms ≡ b → IsTrue (are_apart table ms)
@@ -199,8 +186,7 @@ IsSound-faultless table root defaults begun within faultless made all known = re
   root = within;
   loopless = λ t back. faultless t rule.Name refl (name t back);
   apart = λ t ms shape. told_apart table t ms (faultless t) shape (are_apart table ms) refl;
-  known = known;
-  made = made;
+  defaults = record { known = known; made = made };
   all = all;
 }
 
@@ -209,3 +195,7 @@ pub IfWrong-weaker : {T : Type 0} (r : Result T DraftError) (P Q : TypeNo → Sc
 IfWrong-weaker (Ok x) P Q f h = tt
 IfWrong-weaker (Err (fault.Wrong t rule)) P Q f h = f t rule h
 IfWrong-weaker (Err fault.Memory) P Q f h = tt
+
+pub no_fault_of : (r : Result Catalog DraftError) → IfOk r IsSound → IfOk r (λ types. (t : ℕ) (rule : SchemaRule) → ¬ (HasFault types.table t rule))
+no_fault_of (Ok types) sound = no_fault types sound
+no_fault_of (Err e) sound = tt

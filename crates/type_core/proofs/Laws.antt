@@ -16,7 +16,7 @@ use Rattle.type_core.specs.declared.shape.Shape.TheVariants.{Str, Integer, Boole
 use Rattle.type_core.specs.declared.shape.Property.{Property}
 use Rattle.type_core.specs.Table.{Table, shape_at, properties_of, default_at}
 use Rattle.type_core.specs.Names.{named_step, named_within, named_by, shape_by}
-use Rattle.type_core.specs.Unions.{is_same, is_based, takes, chosen}
+use Rattle.type_core.specs.Unions.{is_scalar, is_same, is_based, takes, chosen}
 use Rattle.snap_core.specs.Value.{value_at}
 use Rattle.type_core.specs.Judging.{is_null, judged_by_choice, judged_step, judged_within, judged_by}
 use Rattle.type_core.specs.Making.{Outcome, admits, conditions_of, refused, scalar_made, default_made, absent_made, absent, items_made, entries_made, field_at, property_made, properties_made, list_of, record_of, list_made, dict_made, maker_of, makers_of, fields_of, made_by}
@@ -245,12 +245,6 @@ module _ (table : Table) (defaults : List (Option Snap)) (known : AreMade table 
   pub made_by-sound : (t : ℕ) (x : Option Value) (s : Value) → made_by table defaults t x ≡ Ok s → Makes table t x s
   made_by-sound t None s h = absent-sound t s h
   made_by-sound t (Some v) s h = maker_of-sound v t s h
-
--- neither a list nor a record
-abbrev pub is_scalar : Value → Bool
-is_scalar (list a ps) = false
-is_scalar (dict a ms) = false
-is_scalar v = true
 
 pub is_same-scalar : (l v : Value) → is_same l v ≡ true → is_scalar v ≡ true
 is_same-scalar null (list a ps) h = cc

@@ -17,3 +17,4 @@ pub mod Steps
 pub mod Tagging
 pub mod Telling
 pub mod Meeting
+pub mod Examples

@@ -99,7 +99,7 @@ IsLead-from_leads table t w c = go (shape_at table t) refl where
   go (Some shape) e = (shape, e, rw e at c)
   go None e = let none = rw e at c in absurd (omega (arith, none.1))
 
-leads_from_shape : (table : Table) (t : ℕ) (shape : Shape) → shape_at table t ≡ Some shape → leads_at table t ≡ leads_of shape
+pub leads_from_shape : (table : Table) (t : ℕ) (shape : Shape) → shape_at table t ≡ Some shape → leads_at table t ≡ leads_of shape
 leads_from_shape table t shape e = rw e refl
 
 -- what the types before `at` lead to is reached, and none of them leads back to t

@@ -2,7 +2,7 @@
 use Rattle.std.proofs.Common.{◌≡◌, ℕ, List, [], ◌∷◌, Bool, true, false, Option, Some, None, if◌then◌else◌, refl, subst, ◌<◌, length, get_or, zero, suc, arith}
 use Rattle.std.specs.Option.{option_map}
 use Rattle.std.specs.Str.{bytes_eq}
-use Rattle.snap_core.specs.Value.{Value, Members, no_members, member, IsPlain, AreAscending, ArePlain}
+use Rattle.snap_core.specs.Value.{Value, Members, no_members, member, IsPlain, ArePlainMembers, ArePlain}
 use Rattle.snap_core.specs.declared.snap.Field.{Field}
 use Rattle.snap_core.specs.declared.snap.Snap.{Snap}
 use Rattle.snap_core.specs.View.{view, fields_view, items_view}
@@ -21,7 +21,7 @@ field_at-fields_of table defaults key (member k v ms) =
     elim (bytes_eq key k) as P [ true ↦ refl | false ↦ field_at-fields_of table defaults key ms ]
 
 -- the value of each field is plain where the record is
-pub plain_value : (fields : List Field) (at : ℕ) (field : Field) → AreAscending (fields_view fields) → at < length fields → IsPlain (view (get_or fields at field).value)
+pub plain_value : (fields : List Field) (at : ℕ) (field : Field) → ArePlainMembers (fields_view fields) → at < length fields → IsPlain (view (get_or fields at field).value)
 plain_value [] at field plain within = absurd (omega arith)
 plain_value (f ∷ fs) zero field plain within = let P : List ℕ × Value → Type 0 = λ e. IsPlain e.1 in subst P (entry-fields f) plain.0
 plain_value (f ∷ fs) (suc at) field plain within = plain_value fs at field plain.2 (omega arith)

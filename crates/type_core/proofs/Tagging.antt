@@ -4,7 +4,7 @@ use Rattle.std.specs.List.{list_any, find}
 use Rattle.snap_core.specs.Value.{Value}
 use Rattle.snap_core.specs.declared.number.TypeNo.{TypeNo}
 use Rattle.snap_core.specs.declared.number.ModelNo.{ModelNo}
-use Rattle.type_core.specs.Table.{Table, properties_of}
+use Rattle.type_core.specs.Table.{Table, properties_of, names_of}
 use Rattle.type_core.specs.Names.{shape_by}
 use Rattle.type_core.specs.Unions.{model_in, model_before, models_of, literal_at, is_literal, tagged, only_model, tells_apart, tag_of}
 
@@ -77,7 +77,7 @@ model_before-found t (Some m) found rest = append_assoc found ((t, m) ∷ []) re
 
 -- the tag of two or more models
 pub tag_of-several : (table : Table) (models : List (TypeNo × ModelNo)) (d : TypeNo × ModelNo) → 2 ≤ length models
-    → tag_of table models ≡ find (tells_apart table models) (map (λ p. p.name) (properties_of table (get_or models 0 d).1.0))
+    → tag_of table models ≡ find (tells_apart table models) (names_of (properties_of table (get_or models 0 d).1.0))
 tag_of-several table [] d several = absurd (omega arith)
 tag_of-several table (m ∷ []) d several = absurd (omega arith)
 tag_of-several table (m ∷ n ∷ ms) d several = refl

@@ -18,14 +18,9 @@ unknown_count defaults = count_by is_none defaults
 pub record AreSoFar (table : Table) (defaults : List (Option Snap)) : Type 0 where
   pub made : AreMade table defaults
   pub kept : (t : ℕ) (s : Value) → default_at defaults t ≡ Some s
-      → (u : TypeNo) (d : Snap) → shape_at table t ≡ Some (Optional u d) → maker_of table defaults (view d) u.0 ≡ Ok s
+      → (u : TypeNo) (d : Snap) → shape_at table t ≡ Some (Optional u d)
+      → maker_of table defaults (view d) u.0 ≡ Ok s
   pub count : length defaults ≡ length table.shapes
-
--- what is made of a type's default, and is light enough, is known
-abbrev pub IsTried : Table → List (Option Snap) → ℕ → Type 0
-IsTried table defaults t =
-    (u : TypeNo) (d : Snap) (s : Value) → shape_at table t ≡ Some (Optional u d) → maker_of table defaults (view d) u.0 ≡ Ok s
-    → IsTrue (is_light s) → default_at defaults t ≡ Some s
 
 -- a default that isn't known yet
 pub record IsNew (table : Table) (defaults : List (Option Snap)) (t : ℕ) (s : Value) : Type 0 where

@@ -18,9 +18,12 @@ pub data HasFault (table : Table) : ℕ → SchemaRule → Type 0 where
   -- a type leads back to itself with no list, record or model between
   name : (t : ℕ) → LeadsTo table t t → HasFault table t rule.Name
   -- the members of a union aren't told apart
-  union : (t : ℕ) (ms : List TypeNo) → shape_at table t ≡ Some (Union ms) → are_apart table ms ≡ false → HasFault table t rule.Union
-  -- an optional type makes nothing where no value is given: its default isn't made by its type, or is too heavy or too deep once it is made, or making it needs a default that is at fault or its own
-  «default» : (t : ℕ) (u : TypeNo) (d : Snap) → shape_at table t ≡ Some (Optional u d) → ((s : Value) → ¬ (Makes table t None s)) → HasFault table t rule.Default
+  union : (t : ℕ) (ms : List TypeNo) → shape_at table t ≡ Some (Union ms) → are_apart table ms ≡ false
+      → HasFault table t rule.Union
+  -- an optional type makes nothing where no value is given: its default isn't made by its type, or is too
+  -- heavy or too deep once it is made, or making it needs a default that is at fault or its own
+  «default» : (t : ℕ) (u : TypeNo) (d : Snap) → shape_at table t ≡ Some (Optional u d)
+      → ((s : Value) → ¬ (Makes table t None s)) → HasFault table t rule.Default
 
 -- faults are looked for in two passes: names and unions, then defaults
 abbrev pub pass_of : SchemaRule → ℕ
@@ -33,12 +36,12 @@ order_of rule.Name = 0
 order_of rule.Union = 1
 order_of _ = 2
 
--- one fault comes before another: in an earlier pass, or at a lower type of the same pass, or by an earlier rule at the same type
+-- one fault comes before another: by pass, then by type, then by the order of the rules
 abbrev pub Precedes : ℕ × SchemaRule → ℕ × SchemaRule → Type 0
 Precedes a b =
     (pass_of a.1 < pass_of b.1)
     ⊎ ((pass_of a.1 ≡ pass_of b.1) × (a.0 < b.0))
-    ⊎ ((a.0 ≡ b.0) × (order_of a.1 < order_of b.1))
+    ⊎ ((pass_of a.1 ≡ pass_of b.1) × (a.0 ≡ b.0) × (order_of a.1 < order_of b.1))
 
 -- the first fault of a table
 pub record IsFirstFault (table : Table) (t : ℕ) (rule : SchemaRule) : Type 0 where

@@ -16,7 +16,8 @@ abbrev pub judged_by_choice : (ℕ → Option Shape) → Option TypeNo → Optio
 judged_by_choice further (Some t) = further t.0
 judged_by_choice further None = None
 
--- one step: names and optional types lead on, a maybe takes null itself, and a union leads to the member that the value chooses
+-- one step: names and optional types lead on, a maybe takes null itself, and a union leads to the member
+-- that the value chooses
 abbrev pub judged_step : Table → Value → (ℕ → Option Shape) → Option Shape → Option Shape
 judged_step table v further (Some (Named u)) = further u.0
 judged_step table v further (Some (Optional u d)) = further u.0

@@ -142,10 +142,12 @@ list_made v items (Some (Array u)) = list_of (items_made 0 u.0 items)
 list_made v items (Some Frozen) = Ok v
 list_made v items _ = mistyped
 
--- a record is made by a map's type, value by value, by a model, property by property, or kept as it is by a frozen type
+-- a record is made by a map's type, value by value, by a model, property by property, or kept as it is by a
+-- frozen type
 abbrev pub dict_made : Table → Maker → Value → Fields → Option Shape → Outcome Value
 dict_made table absent v fields (Some (Map u)) = record_of (entries_made u.0 fields)
-dict_made table absent v fields (Some (Model m)) = record_of (properties_made absent (properties_of table m.0) fields)
+dict_made table absent v fields (Some (Model m)) =
+    record_of (properties_made absent (properties_of table m.0) fields)
 dict_made table absent v fields (Some Frozen) = Ok v
 dict_made table absent v fields _ = mistyped
 
@@ -156,7 +158,8 @@ abbrev mutual
   maker_of table defaults (boolean b) t = scalar_made table (boolean b) (judged_by table (boolean b) t)
   maker_of table defaults (integer z) t = scalar_made table (integer z) (judged_by table (integer z) t)
   maker_of table defaults (text s) t = scalar_made table (text s) (judged_by table (text s) t)
-  maker_of table defaults (list a ps) t = list_made (list a ps) (makers_of table defaults ps) (judged_by table (list a ps) t)
+  maker_of table defaults (list a ps) t =
+      list_made (list a ps) (makers_of table defaults ps) (judged_by table (list a ps) t)
   maker_of table defaults (dict a ms) t =
       dict_made table (absent table defaults) (dict a ms) (fields_of table defaults ms) (judged_by table (dict a ms) t)
 
@@ -175,9 +178,13 @@ abbrev pub made_by : Table → List (Option Snap) → ℕ → Option Value → O
 made_by table defaults t None = absent table defaults t
 made_by table defaults t (Some v) = maker_of table defaults v t
 
+-- no heavier than this, and no deeper than 64
+abbrev pub fits : ℕ → Value → Bool
+fits weight v = nat_le (weight_of v) weight && nat_le (depth_of v) 64
+
 -- within the limits of what is made: a weight of 1,048,576 and a depth of 64
 abbrev pub is_within : Value → Bool
-is_within v = nat_le (weight_of v) 1048576 && nat_le (depth_of v) 64
+is_within v = fits 1048576 v
 
 -- what is beyond the limits is refused as a whole, after everything else
 abbrev pub limited : Outcome Value → Outcome Value

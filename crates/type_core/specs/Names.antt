@@ -25,5 +25,7 @@ shape_by table t = shape_at table (named_by table t)
 
 -- one type leads to another by one step or more, with no list, record or model between
 pub data LeadsTo (table : Table) : ℕ → ℕ → Type 0 where
-  at_once : (t : ℕ) (shape : Shape) (u : TypeNo) → shape_at table t ≡ Some shape → Contains (leads_of shape) u → LeadsTo table t u.0
-  by_way : (t : ℕ) (shape : Shape) (u : TypeNo) (w : ℕ) → shape_at table t ≡ Some shape → Contains (leads_of shape) u → LeadsTo table u.0 w → LeadsTo table t w
+  at_once : (t : ℕ) (shape : Shape) (u : TypeNo) → shape_at table t ≡ Some shape
+      → Contains (leads_of shape) u → LeadsTo table t u.0
+  by_way : (t : ℕ) (shape : Shape) (u : TypeNo) (w : ℕ) → shape_at table t ≡ Some shape
+      → Contains (leads_of shape) u → LeadsTo table u.0 w → LeadsTo table t w

@@ -1,5 +1,5 @@
 -- Faults as they are looked for, type by type.
-use Rattle.std.specs.Prelude.{◌≡◌, ℕ, ◌<◌, List, Option, Some, None, IsSome}
+use Rattle.std.specs.Prelude.{◌≡◌, ℕ, ◌<◌, List, Option, Some, None}
 use Rattle.snap_core.specs.declared.snap.Snap.{Snap}
 use Rattle.snap_core.specs.declared.number.TypeNo.{TypeNo}
 use Rattle.type_core.specs.declared.shape.Shape.TheVariants.{Optional}
@@ -15,11 +15,8 @@ IsFaultless table pass t = (rule : SchemaRule) → pass_of rule ≡ pass → ¬ 
 pub record IsFirstOf (table : Table) (pass t : ℕ) (rule : SchemaRule) : Type 0 where
   pub fault : HasFault table t rule
   pub of_pass : pass_of rule ≡ pass
-  pub first : (other : SchemaRule) → pass_of other ≡ pass → order_of other < order_of rule → ¬ (HasFault table t other)
-
--- where a type is optional, its default is known
-abbrev pub HasDefault : Table → List (Option Snap) → ℕ → Type 0
-HasDefault table defaults t = (u : TypeNo) (d : Snap) → shape_at table t ≡ Some (Optional u d) → IsSome (default_at defaults t)
+  pub first : (other : SchemaRule) → pass_of other ≡ pass → order_of other < order_of rule
+      → ¬ (HasFault table t other)
 
 -- an optional type whose default isn't known
 pub record IsMissing (table : Table) (defaults : List (Option Snap)) (t : ℕ) : Type 0 where

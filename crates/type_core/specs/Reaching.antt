@@ -13,7 +13,8 @@ leads_at table t = leads_in (shape_at table t) where
 
 -- each shape leads on to types of the table
 abbrev pub AreKnown : Table → Type 0
-AreKnown table = All (λ (shape : Shape). All (λ (u : TypeNo). u.0 < length table.shapes) (leads_of shape)) table.shapes
+AreKnown table =
+    All (λ (shape : Shape). All (λ (u : TypeNo). u.0 < length table.shapes) (leads_of shape)) table.shapes
 
 -- each type that is marked is among those reached
 abbrev pub AreReached : List Bool → List TypeNo → Type 0

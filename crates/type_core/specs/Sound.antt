@@ -15,23 +15,33 @@ use Rattle.type_core.specs.Makes.{Makes, is_light}
 abbrev pub AreMade : Table → List (Option Snap) → Type 0
 AreMade table defaults = (t : ℕ) (s : Value) → default_at defaults t ≡ Some s → Makes table t None s
 
--- where an optional type's default can be made, and is light enough once it is, it is known
+-- where a type is optional, and what is made of its default is light enough, that is known
+abbrev pub IsTried : Table → List (Option Snap) → ℕ → Type 0
+IsTried table defaults t =
+    (u : TypeNo) (d : Snap) (s : Value) → shape_at table t ≡ Some (Optional u d)
+    → maker_of table defaults (view d) u.0 ≡ Ok s → IsTrue (is_light s) → default_at defaults t ≡ Some s
+
+-- the same of each type
 abbrev pub AreAll : Table → List (Option Snap) → Type 0
-AreAll table defaults =
-    (t : ℕ) (u : TypeNo) (d : Snap) (s : Value) → shape_at table t ≡ Some (Optional u d) → maker_of table defaults (view d) u.0 ≡ Ok s
-    → IsTrue (is_light s) → default_at defaults t ≡ Some s
+AreAll table defaults = (t : ℕ) → IsTried table defaults t
+
+-- where a type is optional, its default is known
+abbrev pub HasDefault : Table → List (Option Snap) → ℕ → Type 0
+HasDefault table defaults t =
+    (u : TypeNo) (d : Snap) → shape_at table t ≡ Some (Optional u d) → IsSome (default_at defaults t)
 
 -- each optional type has a known default, and that is what it makes where no value is given
 pub record HasDefaults (types : Catalog) : Type 0 where
-  pub known : (t : ℕ) (u : TypeNo) (d : Snap) → shape_at types.table t ≡ Some (Optional u d) → IsSome (default_at types.defaults t)
+  pub known : (t : ℕ) → HasDefault types.table types.defaults t
   pub made : AreMade types.table types.defaults
 
--- types without a fault: they name what is there, none leads back to itself, unions are told apart, and each optional type has its default
+-- types without a fault: they name what is there, none leads back to itself, unions are told apart, and
+-- each optional type has its default
 pub record IsSound (types : Catalog) : Type 0 where
   pub begun : IsBegun (plan_of types.table)
   pub root : types.root.0 < length types.table.models
   pub loopless : (t : ℕ) → ¬ (LeadsTo types.table t t)
-  pub apart : (t : ℕ) (ms : List TypeNo) → shape_at types.table t ≡ Some (Union ms) → IsTrue (are_apart types.table ms)
-  pub known : (t : ℕ) (u : TypeNo) (d : Snap) → shape_at types.table t ≡ Some (Optional u d) → IsSome (default_at types.defaults t)
-  pub made : AreMade types.table types.defaults
+  pub apart : (t : ℕ) (ms : List TypeNo) → shape_at types.table t ≡ Some (Union ms)
+      → IsTrue (are_apart types.table ms)
+  pub defaults : HasDefaults types
   pub all : AreAll types.table types.defaults

@@ -1,12 +1,9 @@
 -- The types of a schema, as a table by numbers.
 use Rattle.std.specs.Prelude.{◌≡◌, ℕ, ◌<◌, List, [], ◌∷◌, length, map, slice_get, Option, Some, None, IfSome, All}
-use Rattle.std.specs.declared.cmp.Ordering.TheVariants.{Less}
-use Rattle.std.specs.Ordering.{nat_cmp}
-use Rattle.std.specs.Cmp.Lexicographic.{slice_cmp}
 use Rattle.snap_core.specs.declared.number.ModelNo.{ModelNo}
 use Rattle.snap_core.specs.declared.number.TypeNo.{TypeNo}
 use Rattle.snap_core.specs.declared.snap.Snap.{Snap}
-use Rattle.snap_core.specs.Value.{Value, IsPlain}
+use Rattle.snap_core.specs.Value.{Value, IsPlain, AreAscending}
 use Rattle.snap_core.specs.View.{view}
 use Rattle.type_core.specs.declared.shape.Shape.{Shape}
 use Rattle.type_core.specs.declared.shape.Shape.TheVariants.{Literal, Optional, Maybe, MaybeNull, Union, Refinement, Array, Map, Model, Named}
@@ -18,7 +15,8 @@ pub record Table : Type 0 where
   pub shapes : List Shape
   pub models : List ModelType
 
--- the types of a schema: the table, the model that documents are of, and what each optional type makes where no value is given
+-- the types of a schema: the table, the model that documents are of, and what each optional type makes
+-- where no value is given
 pub record Catalog : Type 0 where
   pub table : Table
   pub root : ModelNo
@@ -83,15 +81,13 @@ HoldsPlain (Literal l) = IsPlain (view l)
 HoldsPlain (Optional u d) = IsPlain (view d)
 HoldsPlain _ = Unit {0}
 
--- the name comes before those of the properties, by bytes
-abbrev pub ComesBefore : List ℕ → List Property → Type 0
-ComesBefore name [] = Unit {0}
-ComesBefore name (p ∷ ps) = slice_cmp nat_cmp name p.name ≡ Less
+-- the names of properties
+abbrev pub names_of : List Property → List (List ℕ)
+names_of ps = map (λ p. p.name) ps
 
 -- the names stand in strictly ascending order
 abbrev pub AreNamed : List Property → Type 0
-AreNamed [] = Unit {0}
-AreNamed (p ∷ ps) = ComesBefore p.name ps × AreNamed ps
+AreNamed ps = AreAscending (names_of ps)
 
 -- the numbers of the properties' types are below a bound
 abbrev pub AreTyped : ℕ → List Property → Type 0
@@ -112,4 +108,5 @@ pub record IsShapeOf (plan : Plan) (shape : Shape) : Type 0 where
 -- the shapes and the models name what is in the plan
 pub record IsBegun (plan : Plan) : Type 0 where
   pub shapes : All (λ shape. IfSome shape (IsShapeOf plan)) plan.shapes
-  pub models : (number : ℕ) (model : ModelType) → slice_get plan.models number ≡ Some model → IsModelOf plan number model
+  pub models : (number : ℕ) (model : ModelType) → slice_get plan.models number ≡ Some model
+      → IsModelOf plan number model

@@ -1,5 +1,5 @@
 -- Unions: how their members are told apart, and which of them a value chooses.
-use Rattle.std.specs.Prelude.{ℕ, nat_le, List, [], ◌∷◌, length, map, Bool, true, false, ◌&&◌, not, Option, Some, None, is_some, if◌then◌else◌}
+use Rattle.std.specs.Prelude.{◌≡◌, ℕ, nat_le, IsTrue, Contains, List, [], ◌∷◌, length, map, Bool, true, false, ◌&&◌, not, Option, Some, None, is_some, if◌then◌else◌}
 use Rattle.std.specs.List.{list_any, list_all, filter, find}
 use Rattle.std.specs.Ordering.{int_eq}
 use Rattle.std.specs.Str.{bytes_eq}
@@ -10,7 +10,7 @@ use Rattle.snap_core.specs.declared.number.ModelNo.{ModelNo}
 use Rattle.type_core.specs.declared.shape.Shape.{Shape}
 use Rattle.type_core.specs.declared.shape.Shape.TheVariants.{Str, Integer, Boolean, Null, Literal, Enumeration, Frozen, Maybe, MaybeNull, Union, Refinement, Array, Map, Model}
 use Rattle.type_core.specs.declared.shape.Property.{Property}
-use Rattle.type_core.specs.Table.{Table, properties_of}
+use Rattle.type_core.specs.Table.{Table, shape_at, properties_of, names_of}
 use Rattle.type_core.specs.Names.{shape_by}
 
 -- equal scalars; a list or a record is no scalar
@@ -21,6 +21,12 @@ is_same (boolean false) (boolean false) = true
 is_same (integer y) (integer z) = int_eq y z
 is_same (text s) (text u) = bytes_eq s u
 is_same _ _ = false
+
+-- neither a list nor a record
+abbrev pub is_scalar : Value → Bool
+is_scalar (list a ps) = false
+is_scalar (dict a ms) = false
+is_scalar v = true
 
 -- a refinement takes its base's kind: texts or integers
 abbrev pub is_based : Option Shape → Value → Bool
@@ -99,7 +105,7 @@ tells_apart table ms name = all_differ (map (λ m. literal_at table name m.1) ms
 
 -- the tag of two or more models: the first name by bytes that tells them apart
 abbrev pub tag_of : Table → List (TypeNo × ModelNo) → Option (List ℕ)
-tag_of table (m ∷ n ∷ ms) = find (tells_apart table (m ∷ n ∷ ms)) (map (λ p. p.name) (properties_of table m.1.0))
+tag_of table (m ∷ n ∷ ms) = find (tells_apart table (m ∷ n ∷ ms)) (names_of (properties_of table m.1.0))
 tag_of table _ = None
 
 -- the tag of a union
@@ -110,7 +116,8 @@ tag_in table _ = None
 -- the first model whose literal under the tag is this value
 abbrev pub tagged : Table → List (TypeNo × ModelNo) → List ℕ → Value → Option TypeNo
 tagged table [] tag v = None
-tagged table (m ∷ ms) tag v = if is_literal v (literal_at table tag m.1) then Some m.0 else tagged table ms tag v
+tagged table (m ∷ ms) tag v =
+    if is_literal v (literal_at table tag m.1) then Some m.0 else tagged table ms tag v
 
 -- one model alone
 abbrev pub only_model : List (TypeNo × ModelNo) → Option TypeNo
@@ -135,7 +142,8 @@ abbrev pub chosen_for_record : Table → List TypeNo → Option TypeNo → Membe
 chosen_for_record table ms (Some t) given = Some t
 chosen_for_record table ms None given = chosen_model table (models_of table ms) given
 
--- The member that a value chooses: the one that takes the scalar, the array for a list, the map or a model for a record.
+-- The member that a value chooses: the one that takes the scalar, the array for a list, the map or a model
+-- for a record.
 abbrev pub chosen : Table → List TypeNo → Value → Option TypeNo
 chosen table ms (list a ps) = find (λ t. is_array (shape_by table t.0)) ms
 chosen table ms (dict a given) = chosen_for_record table ms (find (λ t. is_map (shape_by table t.0)) ms) given
@@ -216,7 +224,8 @@ is_alone [] models = true
 is_alone (t ∷ []) [] = true
 is_alone _ models = false
 
--- The members of a union are told apart: each is of a kind that is admitted, no scalar is taken by two, at most one is an array, at most one is a map and then none is a model, and two or more models have a tag.
+-- The members of a union are told apart: each is of a kind that is admitted, no scalar is taken by two, at
+-- most one is an array, at most one is a map and then none is a model, and two or more models have a tag.
 abbrev pub are_apart : Table → List TypeNo → Bool
 are_apart table ms =
     list_all (λ t. is_member (shape_by table t.0)) ms
@@ -224,3 +233,11 @@ are_apart table ms =
     && nat_le (length (filter (λ t. is_array (shape_by table t.0)) ms)) 1
     && is_alone (filter (λ t. is_map (shape_by table t.0)) ms) (models_of table ms)
     && have_tag table (models_of table ms)
+
+-- a member of the union at a type that takes the scalar, conditions aside
+pub record IsTaker (table : Table) (t : ℕ) (u : TypeNo) (v : Value) : Type 0 where
+  pub members : List TypeNo
+  pub union : shape_at table t ≡ Some (Union members)
+  pub among : Contains members u
+  pub scalar : IsTrue (is_scalar v)
+  pub takes : IsTrue (takes table (shape_by table u.0) v)

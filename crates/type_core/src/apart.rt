@@ -12,6 +12,7 @@ use crate::scalars::{has_text, takes};
 use crate::shape::{Shape, Texts};
 use crate::table::Table;
 use crate::tags::{models_of, tag_among};
+use crate::unions::{is_array, is_map};
 use snap_core::{ModelNo, Snap, TypeNo};
 use std::alloc::{AllocError, Global};
 
@@ -57,7 +58,7 @@ fn count_arrays(table: &Table, members: &[TypeNo]) -> usize
 {
     members
         .iter()
-        .filter(|t| matches!(table.named_shape(**t), Some(Shape::Array(_))))
+        .filter(|t| is_array(table.named_shape(**t)))
         .count()
 }
 
@@ -66,13 +67,14 @@ fn count_maps(table: &Table, members: &[TypeNo]) -> usize
 {
     members
         .iter()
-        .filter(|t| matches!(table.named_shape(**t), Some(Shape::Map(_))))
+        .filter(|t| is_map(table.named_shape(**t)))
         .count()
 }
 
 /// Whether there are no maps, or one map and no model.
 fn is_alone(maps: usize, models: usize) -> bool
-    ensures { (ts : List TypeNo) (ms : List (TypeNo × ModelNo)) → length ts ≡ maps → length ms ≡ models → result ≡ unions.is_alone ts ms }
+    ensures { (ts : List TypeNo) (ms : List (TypeNo × ModelNo)) → length ts ≡ maps → length ms ≡ models
+        → result ≡ unions.is_alone ts ms }
 {
     match maps {
         0 => true,
@@ -90,7 +92,8 @@ fn have_tag(table: &Table, models: &[(TypeNo, ModelNo)]) -> bool
 
 /// Whether no scalar is taken by two of the members.
 fn none_meet(table: &Table, members: &[TypeNo]) -> bool
-    ensures { result ≡ unions.none_meet (map (λ t. unions.scalars_of table.now (shape_by table.now t.0)) members.now) }
+    ensures { result
+        ≡ unions.none_meet (map (λ t. unions.scalars_of table.now (shape_by table.now t.0)) members.now) }
 {
     let mut rest = members;
     while let Some((t, others)) = rest.split_first() {
@@ -105,20 +108,23 @@ fn none_meet(table: &Table, members: &[TypeNo]) -> bool
 /// Whether no scalar is taken by both this member and another.
 fn stands_apart(table: &Table, t: TypeNo, others: &[TypeNo]) -> bool
     ensures { let scalars = λ (u : TypeNo). unions.scalars_of table.now (shape_by table.now u.0) in
-        unions.none_meet (map scalars (t ∷ others.now)) ≡ (result && unions.none_meet (map scalars others.now)) }
+        unions.none_meet (map scalars (t ∷ others.now))
+        ≡ (result && unions.none_meet (map scalars others.now)) }
 {
     !meets_one(table, t, others)
 }
 
 fn meets_one(table: &Table, t: TypeNo, others: &[TypeNo]) -> bool
-    ensures { result ≡ list_any (λ u. unions.do_meet (unions.scalars_of table.now (shape_by table.now t.0)) (unions.scalars_of table.now (shape_by table.now u.0))) others.now }
+    ensures { result ≡ list_any (λ u. unions.do_meet (unions.scalars_of table.now (shape_by table.now t.0))
+        (unions.scalars_of table.now (shape_by table.now u.0))) others.now }
 {
     others.iter().any(|u| do_meet(table, table.named_shape(t), table.named_shape(*u)))
 }
 
 /// Whether some scalar is taken by both shapes.
 fn do_meet(table: &Table, a: Option<&Shape>, b: Option<&Shape>) -> bool
-    ensures { result ≡ unions.do_meet (unions.scalars_of table.now (option_copied a.entry)) (unions.scalars_of table.now (option_copied b.entry)) }
+    ensures { result ≡ unions.do_meet (unions.scalars_of table.now (option_copied a.entry))
+        (unions.scalars_of table.now (option_copied b.entry)) }
 {
     match a {
         Some(Shape::Null) => takes_scalar(table, b, &Snap::Null),
@@ -132,7 +138,8 @@ fn do_meet(table: &Table, a: Option<&Shape>, b: Option<&Shape>) -> bool
 
 /// Whether a shape takes some of the scalars of a kind: of all texts, or of all integers.
 fn takes_kind(table: &Table, kind: Option<&Shape>, shape: Option<&Shape>) -> bool
-    ensures { result ≡ unions.do_meet (unions.base_scalars (option_copied kind.entry)) (unions.scalars_of table.now (option_copied shape.entry)) }
+    ensures { result ≡ unions.do_meet (unions.base_scalars (option_copied kind.entry))
+        (unions.scalars_of table.now (option_copied shape.entry)) }
 {
     match kind {
         Some(Shape::Str) => takes_texts(table, shape),
@@ -156,11 +163,13 @@ fn takes_texts(table: &Table, shape: Option<&Shape>) -> bool
 
 /// Whether a shape takes some integer.
 fn takes_integers(table: &Table, shape: Option<&Shape>) -> bool
-    ensures { result ≡ unions.do_meet unions.integers (unions.scalars_of table.now (option_copied shape.entry)) }
+    ensures { result
+        ≡ unions.do_meet unions.integers (unions.scalars_of table.now (option_copied shape.entry)) }
 {
     match shape {
         Some(Shape::Integer) => true,
         Some(Shape::Literal(literal)) => matches!(literal, Snap::Int(_)),
+        // None of its texts is an integer.
         Some(Shape::Enumeration(_)) => false,
         Some(Shape::Refinement(base, _)) => {
             matches!(table.named_shape(*base), Some(Shape::Integer))
@@ -171,11 +180,13 @@ fn takes_integers(table: &Table, shape: Option<&Shape>) -> bool
 
 /// Whether a shape takes some boolean.
 fn takes_booleans(shape: Option<&Shape>) -> bool
-    ensures { (table : specs.Table) → result ≡ unions.do_meet unions.booleans (unions.scalars_of table (option_copied shape.entry)) }
+    ensures { (table : specs.Table)
+        → result ≡ unions.do_meet unions.booleans (unions.scalars_of table (option_copied shape.entry)) }
 {
     match shape {
         Some(Shape::Boolean) => true,
         Some(Shape::Literal(literal)) => matches!(literal, Snap::Bool(_)),
+        // None of its texts is a boolean.
         Some(Shape::Enumeration(_)) => false,
         _ => false,
     }
@@ -183,14 +194,16 @@ fn takes_booleans(shape: Option<&Shape>) -> bool
 
 /// Whether a shape of a member's kind takes a scalar, conditions aside.
 fn takes_scalar(table: &Table, shape: Option<&Shape>, given: &Snap) -> bool
-    ensures { result ≡ unions.is_among (unions.scalars_of table.now (option_copied shape.entry)) (view given.now) }
+    ensures { result
+        ≡ unions.is_among (unions.scalars_of table.now (option_copied shape.entry)) (view given.now) }
 {
     is_member(shape) && takes(table, shape, given)
 }
 
 /// Whether a shape takes one of these texts, conditions aside.
 fn takes_one(table: &Table, shape: Option<&Shape>, texts: &Texts) -> bool
-    ensures { result ≡ list_any (unions.is_among (unions.scalars_of table.now (option_copied shape.entry))) (map text texts.now) }
+    ensures { result ≡ list_any (unions.is_among (unions.scalars_of table.now (option_copied shape.entry)))
+        (map text texts.now) }
 {
     for one in texts.as_slice() {
         if takes_text(table, shape, one.text()) {
@@ -201,7 +214,8 @@ fn takes_one(table: &Table, shape: Option<&Shape>, texts: &Texts) -> bool
 }
 
 fn takes_text(table: &Table, shape: Option<&Shape>, given: &str) -> bool
-    ensures { result ≡ unions.is_among (unions.scalars_of table.now (option_copied shape.entry)) (text given.now) }
+    ensures { result
+        ≡ unions.is_among (unions.scalars_of table.now (option_copied shape.entry)) (text given.now) }
 {
     match shape {
         Some(Shape::Str) => true,

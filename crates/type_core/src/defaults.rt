@@ -5,9 +5,10 @@ ghost use Rattle.snap_core.specs.Value.{IsPlain};
 ghost use Rattle.snap_core.specs.View.{view};
 ghost use Rattle.type_core.specs.Table.{HoldsPlain, default_at};
 ghost use Rattle.type_core.specs.Makes as makes;
-ghost use Rattle.type_core.specs.Sound.{AreMade, AreAll};
-ghost use Rattle.type_core.specs.Defaulting.{AreSoFar, IsTried, IsNew, IsLightMade, MakesNoLight, unknown_count};
+ghost use Rattle.type_core.specs.Sound.{AreMade, AreAll, IsTried};
+ghost use Rattle.type_core.specs.Defaulting.{AreSoFar, IsNew, IsLightMade, MakesNoLight, unknown_count};
 
+use crate::limits::fits;
 use crate::making::{MakeError, make_value};
 use crate::shape::Shape;
 use crate::tagged::Tagged;
@@ -16,10 +17,7 @@ use snap_core::{Snap, TypeNo};
 use std::alloc::{AllocError, Global};
 
 /// The greatest weight of a default once it is made.
-const MAX_WEIGHT: u64 = 65_536;
-
-/// The greatest depth of a default once it is made.
-const MAX_DEPTH: u64 = 64;
+const MOST_WEIGHT: u32 = 65_536;
 
 /// What each optional type makes of its default, by the types' numbers. A default that needs others
 /// is made in a round after them; none is where a default isn't made.
@@ -146,11 +144,9 @@ fn make_light(
 fn if_light(made: Snap) -> Option<Snap>
     ensures { result ≡ (if makes.is_light (view made) then Some made else None) }
 {
-    if is_light(&made) { Some(made) } else { None }
-}
-
-fn is_light(made: &Snap) -> bool
-    ensures { result ≡ makes.is_light (view made.now) }
-{
-    made.weight(MAX_WEIGHT + 1) <= MAX_WEIGHT && made.depth(MAX_DEPTH + 1) <= MAX_DEPTH
+    if fits(&made, MOST_WEIGHT) {
+        Some(made)
+    } else {
+        None
+    }
 }

@@ -1,8 +1,9 @@
 //! The types of a schema while they are put together.
-ghost use Rattle.std.specs.Prelude.{◌≡◌, ◌<◌, [], ◌∷◌, ◌++◌, ℕ, length, map, slice_get, slice_set, Some, None, All, IsSome, IfOk, OnOk, OnErr, vec_len};
+ghost use Rattle.std.specs.Prelude.{◌≡◌, ◌<◌, [], ◌∷◌, ◌++◌, ℕ, length, map, slice_get, slice_set, Some, None, All, IsSome, IfOk, OnOk, OnErr};
 ghost use Rattle.type_core.specs.Table.{AreNamed, AreTyped, IsShapeOf, IsBegun, plan_of};
 ghost use Rattle.type_core.specs.Table as specs;
 ghost use Rattle.type_core.specs.Faults.{HasFault, IsFirstFault, IfWrong};
+ghost use Rattle.type_core.specs.Sound.{IsSound};
 ghost use Rattle.pointer_core.specs.declared.schema_rule.SchemaRule.{SchemaRule as Rule};
 
 use crate::defaults::defaults_of;
@@ -21,8 +22,7 @@ use std::marker::Model;
 /// The types of a schema while they are put together. Contracts see a `Plan`.
 #[derive(Debug, Drop)]
 pub struct Draft {
-    alloc: Global,
-    shapes: Vec<Option<Shape>>,
+    shapes: Parts<Option<Shape>>,
     models: Parts<ModelType>,
 }
 
@@ -35,9 +35,9 @@ impl Model for Draft {
 
     ghost coded = { Prim.hlevel (codes, snap.the_row.coded) };
 
-    ghost view = { λ d. record { shapes = d.shapes.items; models = d.models } };
+    ghost view = { λ d. record { shapes = d.shapes; models = d.models } };
 
-    ghost invariant = { λ d. IsBegun (record { shapes = d.shapes.items; models = d.models }) };
+    ghost invariant = { λ d. IsBegun (record { shapes = d.shapes; models = d.models }) };
 }
 
 impl Draft {
@@ -46,8 +46,7 @@ impl Draft {
         ensures { result ≡ record { shapes = []; models = [] } }
     {
         Draft {
-            alloc,
-            shapes: Vec::new(alloc),
+            shapes: Parts::new(alloc),
             models: Parts::new(alloc),
         }
     }
@@ -69,7 +68,8 @@ impl Draft {
         requires typed { AreTyped (length self.old.shapes) properties }
         ensures number { IfOk result (λ m. m.0 ≡ length self.old.models) }
         ensures models { let own : TypeNo = record { 0 = length self.old.shapes } in
-            OnOk result (self.new.models ≡ self.old.models ++ record { name = name; properties = properties; own = own } ∷ []) }
+            OnOk result (self.new.models
+            ≡ self.old.models ++ record { name = name; properties = properties; own = own } ∷ []) }
         ensures shapes { IfOk result (λ m. self.new.shapes ≡ self.old.shapes ++ Some (Shape.Model m) ∷ []) }
         ensures err { OnErr result (self.new ≡ self.old) }
     {
@@ -93,7 +93,7 @@ impl Draft {
         requires names { IsShapeOf self.old shape }
         ensures { self.new ≡ record self.old { shapes = slice_set self.old.shapes t.0 (Some shape) } }
     {
-        set_shape(&mut self.shapes, t, shape);
+        self.shapes.set(t.0, Some(shape));
     }
 
     /// The finished types, or the first fault. `root` is the model that documents are of.
@@ -106,34 +106,27 @@ impl Draft {
         ensures plan { IfOk result (λ types. plan_of types.table ≡ self) }
         ensures root { IfOk result (λ types. types.root ≡ root) }
         ensures faultless { IfOk result (λ types. (t : ℕ) (rule : Rule) → ¬ (HasFault types.table t rule)) }
-        ensures wrong { IfWrong result (λ t rule. (table : specs.Table) → plan_of table ≡ self → IsFirstFault table t.0 rule) }
+        ensures sound { IfOk result IsSound }
+        ensures wrong { IfWrong result
+            (λ t rule. (table : specs.Table) → plan_of table ≡ self → IsFirstFault table t.0 rule) }
     {
-        let Draft {
-            alloc,
-            shapes,
-            models,
-        } = self;
+        let Draft { shapes, models } = self;
+        let alloc = models.allocator();
         let shapes = defined_shapes(alloc, shapes)?;
         finished(alloc, Table { shapes, models }, root)
     }
 }
 
-fn set_shape(shapes: &mut Vec<Option<Shape>>, t: TypeNo, shape: Shape)
-    requires { t.0 < vec_len shapes.old }
-    ensures { shapes.new.items ≡ slice_set shapes.old.items t.0 (Some shape) }
-{
-    shapes[t.0] = Some(shape);
-}
-
 /// Adds a model, and its shape as the next type: both or neither.
 fn add_model(
-    shapes: &mut Vec<Option<Shape>>,
+    shapes: &mut Parts<Option<Shape>>,
     models: &mut Parts<ModelType>,
     model: ModelType,
 ) -> Result<(), AllocError>
     ensures ok { let m : ModelNo = record { 0 = length models.old } in
-        OnOk result ((shapes.new.items ≡ shapes.old.items ++ Some (Shape.Model m) ∷ []) × (models.new ≡ models.old ++ model ∷ [])) }
-    ensures err { OnErr result ((shapes.new.items ≡ shapes.old.items) × (models.new ≡ models.old)) }
+        OnOk result ((shapes.new ≡ shapes.old ++ Some (Shape.Model m) ∷ [])
+        × (models.new ≡ models.old ++ model ∷ [])) }
+    ensures err { OnErr result ((shapes.new ≡ shapes.old) × (models.new ≡ models.old)) }
 {
     let number = ModelNo(models.len());
     shapes.push(Some(Shape::Model(number)))?;
@@ -147,12 +140,12 @@ fn add_model(
 }
 
 /// The shapes, each of which is defined.
-fn defined_shapes(alloc: Global, shapes: Vec<Option<Shape>>) -> Result<Parts<Shape>, AllocError>
-    requires { All IsSome shapes.items }
-    ensures { IfOk result (λ defined. map Some defined ≡ shapes.items) }
+fn defined_shapes(alloc: Global, shapes: Parts<Option<Shape>>) -> Result<Parts<Shape>, AllocError>
+    requires { All IsSome shapes }
+    ensures { IfOk result (λ defined. map Some defined ≡ shapes) }
 {
     let mut defined = Parts::new(alloc);
-    for shape in shapes {
+    for shape in shapes.into_vec() {
         push_defined(&mut defined, shape)?;
     }
     Ok(defined)
@@ -174,7 +167,7 @@ fn finished(alloc: Global, table: Table, root: ModelNo) -> Result<Types, DraftEr
     requires root { root.0 < length table.models }
     ensures table { IfOk result (λ types. types.table ≡ table) }
     ensures root { IfOk result (λ types. types.root ≡ root) }
-    ensures faultless { IfOk result (λ types. (t : ℕ) (rule : Rule) → ¬ (HasFault types.table t rule)) }
+    ensures sound { IfOk result IsSound }
     ensures wrong { IfWrong result (λ t rule. IsFirstFault table t.0 rule) }
 {
     check_types(alloc, &table)?;

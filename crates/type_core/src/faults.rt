@@ -2,7 +2,8 @@
 ghost use Rattle.std.specs.Prelude.{◌≡◌, ◌<◌, ℕ, length, IfOk, IfSome, IfNone, OnOk, MatchBool};
 ghost use Rattle.type_core.specs.Faults.{HasFault, IsFirstFault, IfWrong};
 ghost use Rattle.type_core.specs.Reaching.{AreKnown};
-ghost use Rattle.type_core.specs.Passes.{IsFaultless, IsFirstOf, HasDefault, IsMissing};
+ghost use Rattle.type_core.specs.Passes.{IsFaultless, IsFirstOf, IsMissing};
+ghost use Rattle.type_core.specs.Sound.{HasDefault};
 
 use crate::apart::are_apart;
 use crate::defaults::is_known;

@@ -7,6 +7,7 @@ mod draft;
 mod faults;
 mod judging;
 mod leads;
+mod limits;
 mod making;
 mod records;
 mod rule;
@@ -15,8 +16,6 @@ mod shape;
 mod table;
 mod tagged;
 mod tags;
-#[cfg(test)]
-mod tests;
 mod types;
 mod unions;
 

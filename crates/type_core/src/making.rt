@@ -1,9 +1,9 @@
 //! Making: what a type makes of a value that comes from outside, or of none.
-ghost use Rattle.std.specs.Prelude.{◌≡◌, [], ◌∷◌, Option, Some, None, Ok, IfSome, IfOk, MatchResult};
+ghost use Rattle.std.specs.Prelude.{◌≡◌, [], Option, Some, None, Ok, IfSome, IfOk, MatchResult};
 ghost use Rattle.std.specs.Option.{option_copied};
 ghost use Rattle.std.specs.List.{list_all};
 ghost use Rattle.std.specs.Fmt.{char_count};
-ghost use Rattle.snap_core.specs.Value.{Value, IsPlain, ArePlain, AreAscending};
+ghost use Rattle.snap_core.specs.Value.{Value, IsPlain, ArePlain, ArePlainMembers};
 ghost use Rattle.snap_core.specs.View.{view, items_view, fields_view};
 ghost use Rattle.type_core.specs.Making as specs;
 ghost use Rattle.type_core.specs.Making.{maker_of, making};
@@ -13,6 +13,7 @@ ghost use Rattle.type_core.specs.Sound.{IsSound};
 ghost use Rattle.type_core.specs.declared.making.MakeError.TheVariants.{Memory};
 
 use crate::judging::judged;
+use crate::limits::fits;
 use crate::records::{make_absent, make_entries, make_items, make_properties};
 use crate::scalars::takes;
 use crate::shape::{Condition, Shape};
@@ -24,17 +25,15 @@ use std::alloc::{AllocError, Global};
 use thiserror::Error;
 
 /// The greatest weight of a value that is made.
-const MAX_WEIGHT: u64 = 1_048_576;
-
-/// The greatest depth of a value that is made.
-const MAX_DEPTH: u64 = 64;
+const MOST_WEIGHT: u32 = 1_048_576;
 
 /// Why a value isn't made.
 #[derive(Debug, Drop, Error)]
 pub enum MakeError {
     #[error("out of memory")]
     Memory,
-    /// The first rule that isn't met, in document order, and the place where, from the given value's root.
+    /// The first rule that isn't met, in document order, and the place where, from the given value's
+    /// root; `large` after all others, at the root.
     #[error("the type doesn't take the value")]
     Refused(Refusal),
 }
@@ -48,6 +47,10 @@ impl From<AllocError> for MakeError {
 }
 
 /// What the type `t` makes of a value, or of none.
+///
+/// Refused by the first rule that isn't met, in document order: `type` where a type doesn't take a
+/// value, `refine` where a condition isn't met. What is made and is heavier than 1,048,576 or deeper
+/// than 64 is refused after all others, as `large`.
 pub fn make(
     alloc: Global,
     types: &Types,
@@ -56,7 +59,8 @@ pub fn make(
 ) -> Result<Snap, MakeError>
     requires plain { IfSome given (λ s. IsPlain (view s.now)) }
     ensures made { IfOk result (λ s. making types.now t.0 (value_of given.entry) ≡ Ok (view s)) }
-    ensures refused { IfRefused result (λ r. making types.now t.0 (value_of given.entry) ≡ Err (refused_as r)) }
+    ensures refused { IfRefused result
+        (λ r. making types.now t.0 (value_of given.entry) ≡ Err (refused_as r)) }
     ensures table { IfOk result (λ s. MakesWithin types.now.table t.0 (value_of given.entry) (view s)) }
     ensures only { (s : Value) → MakesWithin types.now.table t.0 (value_of given.entry) s
         → MatchResult result (λ made. view made ≡ s) (λ e. e ≡ MakeError.Memory) }
@@ -75,7 +79,8 @@ fn make_any(
     given: Option<&Snap>,
 ) -> Result<Snap, MakeError>
     requires plain { IfSome given (λ s. IsPlain (view s.now)) }
-    ensures made { Answers view result (specs.made_by types.now.table types.now.defaults t.0 (value_of given.entry)) }
+    ensures made { Answers view result
+        (specs.made_by types.now.table types.now.defaults t.0 (value_of given.entry)) }
     ensures sound { IsSound types.now }
 {
     let (tagged, defaults) = types.inside();
@@ -88,7 +93,7 @@ fn make_any(
 fn limited(alloc: Global, made: Snap) -> Result<Snap, MakeError>
     ensures { Answers view result (specs.limited (Ok (view made))) }
 {
-    if made.weight(MAX_WEIGHT + 1) > MAX_WEIGHT || made.depth(MAX_DEPTH + 1) > MAX_DEPTH {
+    if !fits(&made, MOST_WEIGHT) {
         return Err(refused(alloc, Rule::Large));
     }
     Ok(made)
@@ -143,7 +148,8 @@ fn make_scalar(
 
 /// Whether the conditions of a refinement admit a value. Other shapes have none.
 fn admit(shape: Option<&Shape>, given: &Snap) -> bool
-    ensures { result ≡ list_all (specs.admits (view given.now)) (specs.conditions_of (option_copied shape.entry)) }
+    ensures { result
+        ≡ list_all (specs.admits (view given.now)) (specs.conditions_of (option_copied shape.entry)) }
 {
     match shape {
         Some(Shape::Refinement(_, conditions)) => {
@@ -191,7 +197,8 @@ fn make_list(
     given: &Snap,
 ) -> Result<Snap, MakeError>
     requires plain { ArePlain (items_view items.now) }
-    ensures { Answers view result (specs.list_made (view given.now) (specs.makers_of types.now defaults.now (items_view items.now)) (option_copied shape.entry)) }
+    ensures { Answers view result (specs.list_made (view given.now)
+        (specs.makers_of types.now defaults.now (items_view items.now)) (option_copied shape.entry)) }
 {
     match shape {
         Some(Shape::Array(of)) => {
@@ -212,10 +219,11 @@ fn make_dict(
     shape: Option<&Shape>,
     given: &Snap,
 ) -> Result<Snap, MakeError>
-    requires plain { AreAscending (fields_view fields.now) }
+    requires plain { ArePlainMembers (fields_view fields.now) }
     ensures { let absent = specs.absent types.now defaults.now in
         let entries = specs.fields_of types.now defaults.now (fields_view fields.now) in
-        Answers view result (specs.dict_made types.now absent (view given.now) entries (option_copied shape.entry)) }
+        Answers view result
+        (specs.dict_made types.now absent (view given.now) entries (option_copied shape.entry)) }
 {
     match shape {
         Some(Shape::Map(of)) => {

@@ -1,7 +1,6 @@
 //! Making the parts of lists and records.
-ghost use Rattle.std.specs.Prelude.{◌≡◌, [], ◌∷◌, ◌++◌, IfOk, OnOk, decimal};
-ghost use Rattle.std.specs.Option.{option_copied};
-ghost use Rattle.snap_core.specs.Value.{Value, IsPlain, ArePlain, AreAscending};
+ghost use Rattle.std.specs.Prelude.{◌≡◌, [], ◌∷◌, ◌++◌, OnOk, decimal};
+ghost use Rattle.snap_core.specs.Value.{Value, ArePlain, ArePlainMembers};
 ghost use Rattle.snap_core.specs.View.{view, items_view, fields_view};
 ghost use Rattle.type_core.specs.Table.{default_at};
 ghost use Rattle.type_core.specs.Making as specs;
@@ -54,12 +53,13 @@ pub fn make_items(
     items: &[Snap],
 ) -> Result<Items, MakeError>
     requires plain { ArePlain (items_view items.now) }
-    ensures { Answers items_view result (specs.items_made 0 of.0 (specs.makers_of types.now defaults.now (items_view items.now))) }
+    ensures { Answers items_view result
+        (specs.items_made 0 of.0 (specs.makers_of types.now defaults.now (items_view items.now))) }
 {
     let mut made = Parts::new(alloc);
     for (index, item) in items.iter().enumerate() {
         let value = make_value(alloc, types, defaults, of, item);
-        let value = under_index(alloc, index, value)?;
+        let value = under_index(index, value)?;
         made.push(value)?;
     }
     Ok(made)
@@ -74,13 +74,14 @@ pub fn make_entries(
     of: TypeNo,
     fields: &[Field],
 ) -> Result<Fields, MakeError>
-    requires plain { AreAscending (fields_view fields.now) }
-    ensures { Answers fields_view result (specs.entries_made of.0 (specs.fields_of types.now defaults.now (fields_view fields.now))) }
+    requires plain { ArePlainMembers (fields_view fields.now) }
+    ensures { Answers fields_view result
+        (specs.entries_made of.0 (specs.fields_of types.now defaults.now (fields_view fields.now))) }
 {
     let mut made = Parts::new(alloc);
     for field in fields {
         let value = make_value(alloc, types, defaults, of, &field.value);
-        let value = under(alloc, field.key.text(), value)?;
+        let value = under(field.key.text(), value)?;
         push_entry(alloc, &mut made, field.key.text(), value)?;
     }
     Ok(made)
@@ -95,7 +96,7 @@ pub fn make_properties(
     fields: &[Field],
     properties: &[Property],
 ) -> Result<Fields, MakeError>
-    requires plain { AreAscending (fields_view fields.now) }
+    requires plain { ArePlainMembers (fields_view fields.now) }
     ensures { let absent = specs.absent types.now defaults.now in
         let given = specs.fields_of types.now defaults.now (fields_view fields.now) in
         Answers fields_view result (specs.properties_made absent properties.now given) }
@@ -103,7 +104,7 @@ pub fn make_properties(
     let mut made = Parts::new(alloc);
     for property in properties {
         let value = make_property(alloc, types, defaults, fields, property);
-        let value = under(alloc, property.name.text(), value)?;
+        let value = under(property.name.text(), value)?;
         push_entry(alloc, &mut made, property.name.text(), value)?;
     }
     Ok(made)
@@ -117,10 +118,11 @@ fn make_property(
     fields: &[Field],
     property: &Property,
 ) -> Result<Snap, MakeError>
-    requires plain { AreAscending (fields_view fields.now) }
+    requires plain { ArePlainMembers (fields_view fields.now) }
     ensures { let absent = specs.absent types.now defaults.now in
         let given = specs.fields_of types.now defaults.now (fields_view fields.now) in
-        Answers view result (specs.property_made absent property.now (specs.field_at property.now.name given)) }
+        Answers view result
+        (specs.property_made absent property.now (specs.field_at property.now.name given)) }
 {
     match position(fields, property.name.text()) {
         Some(at) => make_value(alloc, types, defaults, property.of, &fields[at].value),
@@ -129,41 +131,31 @@ fn make_property(
 }
 
 /// What making came to as it reads one level higher up, where `token` leads to its place.
-fn under(alloc: Global, token: &str, made: Result<Snap, MakeError>) -> Result<Snap, MakeError>
+fn under(token: &str, made: Result<Snap, MakeError>) -> Result<Snap, MakeError>
     ensures { (outcome : Outcome Value) → Answers view made outcome
         → Answers view result (specs.under token.now outcome) }
 {
     match made {
-        Ok(value) => Ok(value),
-        Err(MakeError::Memory) => Err(MakeError::Memory),
-        Err(MakeError::Refused(refusal)) => {
-            Err(MakeError::Refused(step_down(alloc, token, refusal)?))
-        }
+        Err(MakeError::Refused(Refusal { path, rule })) => Err(MakeError::Refused(Refusal {
+            path: path.under(token)?,
+            rule,
+        })),
+        made => made,
     }
 }
 
-fn under_index(
-    alloc: Global,
-    index: usize,
-    made: Result<Snap, MakeError>,
-) -> Result<Snap, MakeError>
+/// The same, where its place is the item of a list at `index`.
+fn under_index(index: usize, made: Result<Snap, MakeError>) -> Result<Snap, MakeError>
     ensures { (outcome : Outcome Value) → Answers view made outcome
         → Answers view result (specs.under (decimal index) outcome) }
 {
     match made {
-        Ok(value) => Ok(value),
-        Err(error) => {
-            let token = format!(in alloc; "{index}")?;
-            under(alloc, token.as_str(), Err(error))
-        }
+        Err(MakeError::Refused(Refusal { path, rule })) => Err(MakeError::Refused(Refusal {
+            path: path.under_index(index)?,
+            rule,
+        })),
+        made => made,
     }
-}
-
-fn step_down(alloc: Global, token: &str, mut refusal: Refusal) -> Result<Refusal, AllocError>
-    ensures { IfOk result (λ r. r ≡ record { path = token.now ∷ refusal.path; rule = refusal.rule }) }
-{
-    refusal.path.push_front(Txt::copy(alloc, token)?)?;
-    Ok(refusal)
 }
 
 fn push_entry(alloc: Global, made: &mut Fields, key: &str, value: Snap) -> Result<(), AllocError>

@@ -11,7 +11,7 @@ use std::alloc::AllocError;
 pub enum DraftError {
     #[error("out of memory")]
     Memory,
-    /// The first fault, at this type.
+    /// The first fault, at this type: by `Name`, `Union` or `Default`.
     #[error("a type at fault")]
     Wrong { t: TypeNo, rule: SchemaRule },
 }

@@ -1,8 +1,9 @@
 //! The tag by which a union's models are told apart.
-ghost use Rattle.std.specs.Prelude.{◌≡◌, [], ◌∷◌, ◌++◌, ◌&&◌, map, IfOk, OnOk, option_map};
+ghost use Rattle.std.specs.Prelude.{◌≡◌, [], ◌∷◌, ◌++◌, ◌&&◌, IfOk, OnOk, option_map};
 ghost use Rattle.std.specs.List.{list_any, find};
 ghost use Rattle.std.specs.Option.{option_copied};
 ghost use Rattle.snap_core.specs.View.{view};
+ghost use Rattle.type_core.specs.Table.{names_of};
 ghost use Rattle.type_core.specs.Names.{shape_by};
 ghost use Rattle.type_core.specs.Unions as unions;
 
@@ -94,7 +95,8 @@ fn first_apart<'a>(
     models: &[(TypeNo, ModelNo)],
     properties: &'a [Property],
 ) -> Option<&'a str>
-    ensures { option_map (λ tag. tag.now) result ≡ find (unions.tells_apart table.now models.now) (map (λ p. p.name) properties.now) }
+    ensures { option_map (λ tag. tag.now) result
+        ≡ find (unions.tells_apart table.now models.now) (names_of properties.now) }
 {
     for property in properties {
         if tells_apart(table, models, property.name.text()) {
@@ -120,7 +122,8 @@ fn tells_apart(table: &Table, models: &[(TypeNo, ModelNo)], name: &str) -> bool
 
 /// Whether a model has a literal property of this name, and none of the others has the same.
 fn stands_out(table: &Table, m: (TypeNo, ModelNo), others: &[(TypeNo, ModelNo)], name: &str) -> bool
-    ensures { unions.tells_apart table.now (m ∷ others.now) name.now ≡ (result && unions.tells_apart table.now others.now name.now) }
+    ensures { unions.tells_apart table.now (m ∷ others.now) name.now
+        ≡ (result && unions.tells_apart table.now others.now name.now) }
 {
     match literal_at(table, name, m.1) {
         Some(literal) => !has_literal(table, others, name, literal),
@@ -130,7 +133,8 @@ fn stands_out(table: &Table, m: (TypeNo, ModelNo), others: &[(TypeNo, ModelNo)],
 
 /// Whether one of the models has this literal under the name.
 fn has_literal(table: &Table, models: &[(TypeNo, ModelNo)], name: &str, literal: &Snap) -> bool
-    ensures { result ≡ list_any (λ m. unions.is_literal (view literal.now) (unions.literal_at table.now name.now m.1)) models.now }
+    ensures { result ≡ list_any
+        (λ m. unions.is_literal (view literal.now) (unions.literal_at table.now name.now m.1)) models.now }
 {
     models
         .iter()

@@ -1,14 +1,14 @@
 //! The finished types of a schema.
-ghost use Rattle.std.specs.Prelude.{◌≡◌, ◌<◌, length, Some, option_map, slice_get};
+ghost use Rattle.std.specs.Prelude.{◌≡◌, ◌<◌, length, Some, IfSome, option_map, slice_get};
 ghost use Rattle.snap_core.specs.Value.{IsPlain};
 ghost use Rattle.snap_core.specs.View.{view};
 ghost use Rattle.type_core.specs.Table.{AreNamed, AreTyped, IsShapeOf, plan_of, shape_at, properties_of};
 ghost use Rattle.type_core.specs.Sound.{IsSound};
 ghost use Rattle.type_core.specs.Unions as unions;
 
-use crate::shape::{Properties, Shape};
+use crate::shape::{ModelType, Properties, Shape};
 use crate::tagged::Tagged;
-use crate::unions::choose;
+use crate::unions::chosen_at;
 use list_core::Parts;
 use snap_core::{ModelNo, Name, Snap, TypeNo};
 use std::marker::Model;
@@ -57,31 +57,35 @@ impl Types {
         self.root
     }
 
+    /// The name of a model.
     pub fn name(&self, m: ModelNo) -> &Name
         requires { m.0 < length self.now.table.models }
         ensures { option_map (λ model. model.name) (slice_get self.now.table.models m.0) ≡ Some result.now }
     {
-        &self.tagged.table().models.as_slice()[m.0].name
+        &self.model(m).name
     }
 
+    /// The properties of a model, names ascending by bytes.
     pub fn properties(&self, m: ModelNo) -> &Properties
         requires { m.0 < length self.now.table.models }
         ensures properties { properties_of self.now.table m.0 ≡ result.now }
         ensures named { AreNamed result.now }
         ensures typed { AreTyped (length self.now.table.shapes) result.now }
     {
-        &self.tagged.table().models.as_slice()[m.0].properties
+        &self.model(m).properties
     }
 
-    /// The type that the model is.
+    /// The model's own type. Other types may have the same shape.
     pub fn model_type(&self, m: ModelNo) -> TypeNo
         requires { m.0 < length self.now.table.models }
         ensures model { shape_at self.now.table result.0 ≡ Some (Shape.Model m) }
+        ensures own { option_map (λ model. model.own) (slice_get self.now.table.models m.0) ≡ Some result }
         ensures known { result.0 < length self.now.table.shapes }
     {
-        self.tagged.table().models.as_slice()[m.0].own
+        self.model(m).own
     }
 
+    /// What a type is.
     pub fn shape(&self, t: TypeNo) -> &Shape
         requires { t.0 < length self.now.table.shapes }
         ensures shape { shape_at self.now.table t.0 ≡ Some result.now }
@@ -89,6 +93,14 @@ impl Types {
         ensures sound { IsSound self.now }
     {
         &self.tagged.table().shapes.as_slice()[t.0]
+    }
+
+    fn model(&self, m: ModelNo) -> &ModelType
+        requires { m.0 < length self.now.table.models }
+        ensures model { slice_get self.now.table.models m.0 ≡ Some result.now }
+        ensures sound { IsSound self.now }
+    {
+        &self.tagged.table().models.as_slice()[m.0]
     }
 
     /// The types with the tags of their unions, and what the optional types make where no value
@@ -102,13 +114,15 @@ impl Types {
     }
 }
 
-/// The member of the union `t` that a value chooses.
+/// The member that a value chooses of the union `t`; none where no member takes it, or `t` is no
+/// union.
 pub fn chosen(types: &Types, t: TypeNo, given: &Snap) -> Option<TypeNo>
     requires plain { IsPlain (view given.now) }
-    ensures { result ≡ unions.chosen_by types.now.table (shape_at types.now.table t.0) (view given.now) }
+    ensures member { result
+        ≡ unions.chosen_by types.now.table (shape_at types.now.table t.0) (view given.now) }
+    ensures known { IfSome result (λ m. m.0 < length types.now.table.shapes) }
+    ensures taker { (u : TypeNo) → unions.IsTaker types.now.table t.0 u (view given.now) → result ≡ Some u }
 {
-    match types.tagged.table().shape(t) {
-        Some(Shape::Union(members)) => choose(&types.tagged, t, members.as_slice(), given),
-        _ => None,
-    }
+    let (tagged, _) = types.inside();
+    chosen_at(tagged, t, given)
 }

@@ -2,7 +2,7 @@
 ghost use Rattle.std.specs.Prelude.{◌≡◌, [], ◌∷◌, Some, is_some, option_map};
 ghost use Rattle.std.specs.Option.{option_copied};
 ghost use Rattle.std.specs.List.{find};
-ghost use Rattle.snap_core.specs.Value.{IsPlain, AreAscending};
+ghost use Rattle.snap_core.specs.Value.{IsPlain, ArePlainMembers};
 ghost use Rattle.snap_core.specs.View.{view, fields_view};
 ghost use Rattle.type_core.specs.declared.shape.Shape.TheVariants.{Union};
 ghost use Rattle.type_core.specs.Table.{shape_at};
@@ -15,6 +15,18 @@ use crate::table::Table;
 use crate::tagged::Tagged;
 use crate::tags::literal_at;
 use snap_core::{Field, ModelNo, Snap, TypeNo, find};
+
+/// The member that a value chooses of the union `t`; none where no member takes it, or `t` is no
+/// union.
+pub fn chosen_at(types: &Tagged, t: TypeNo, given: &Snap) -> Option<TypeNo>
+    requires plain { IsPlain (view given.now) }
+    ensures { result ≡ unions.chosen_by types.now (shape_at types.now t.0) (view given.now) }
+{
+    match types.table().shape(t) {
+        Some(Shape::Union(members)) => choose(types, t, members.as_slice(), given),
+        _ => None,
+    }
+}
 
 /// The member of the union `t` that a value chooses.
 pub fn choose(types: &Tagged, t: TypeNo, members: &[TypeNo], given: &Snap) -> Option<TypeNo>
@@ -30,7 +42,8 @@ pub fn choose(types: &Tagged, t: TypeNo, members: &[TypeNo], given: &Snap) -> Op
 }
 
 fn taker_among(table: &Table, members: &[TypeNo], given: &Snap) -> Option<TypeNo>
-    ensures { result ≡ find (λ t. unions.takes table.now (shape_by table.now t.0) (view given.now)) members.now }
+    ensures { result
+        ≡ find (λ t. unions.takes table.now (shape_by table.now t.0) (view given.now)) members.now }
 {
     members
         .iter()
@@ -44,7 +57,7 @@ fn array_among(table: &Table, members: &[TypeNo]) -> Option<TypeNo>
     members
         .iter()
         .copied()
-        .find(|t| matches!(table.named_shape(*t), Some(Shape::Array(_))))
+        .find(|t| is_array(table.named_shape(*t)))
 }
 
 fn map_among(table: &Table, members: &[TypeNo]) -> Option<TypeNo>
@@ -53,7 +66,19 @@ fn map_among(table: &Table, members: &[TypeNo]) -> Option<TypeNo>
     members
         .iter()
         .copied()
-        .find(|t| matches!(table.named_shape(*t), Some(Shape::Map(_))))
+        .find(|t| is_map(table.named_shape(*t)))
+}
+
+pub fn is_array(shape: Option<&Shape>) -> bool
+    ensures { result ≡ unions.is_array (option_copied shape.entry) }
+{
+    matches!(shape, Some(Shape::Array(_)))
+}
+
+pub fn is_map(shape: Option<&Shape>) -> bool
+    ensures { result ≡ unions.is_map (option_copied shape.entry) }
+{
+    matches!(shape, Some(Shape::Map(_)))
 }
 
 fn choose_for_record(
@@ -63,7 +88,7 @@ fn choose_for_record(
     fields: &[Field],
 ) -> Option<TypeNo>
     requires union { shape_at types.now t.0 ≡ Some (Union members.now) }
-    requires plain { AreAscending (fields_view fields.now) }
+    requires plain { ArePlainMembers (fields_view fields.now) }
     ensures { let map = find (λ t. unions.is_map (shape_by types.now t.0)) members.now in
         result ≡ unions.chosen_for_record types.now members.now map (fields_view fields.now) }
 {
@@ -75,8 +100,9 @@ fn choose_for_record(
 
 fn choose_model(types: &Tagged, t: TypeNo, members: &[TypeNo], fields: &[Field]) -> Option<TypeNo>
     requires union { shape_at types.now t.0 ≡ Some (Union members.now) }
-    requires plain { AreAscending (fields_view fields.now) }
-    ensures { result ≡ unions.chosen_model types.now (unions.models_of types.now members.now) (fields_view fields.now) }
+    requires plain { ArePlainMembers (fields_view fields.now) }
+    ensures { result
+        ≡ unions.chosen_model types.now (unions.models_of types.now members.now) (fields_view fields.now) }
 {
     match types.tag(t) {
         Some(tag) => {
@@ -89,7 +115,8 @@ fn choose_model(types: &Tagged, t: TypeNo, members: &[TypeNo], fields: &[Field])
 
 /// The first model among the members whose literal under the tag is the value.
 fn model_tagged(table: &Table, members: &[TypeNo], tag: &str, value: &Snap) -> Option<TypeNo>
-    ensures { result ≡ unions.tagged table.now (unions.models_of table.now members.now) tag.now (view value.now) }
+    ensures { result
+        ≡ unions.tagged table.now (unions.models_of table.now members.now) tag.now (view value.now) }
 {
     for t in members {
         if is_tagged(table, *t, tag, value) {
@@ -100,7 +127,8 @@ fn model_tagged(table: &Table, members: &[TypeNo], tag: &str, value: &Snap) -> O
 }
 
 fn is_tagged(table: &Table, t: TypeNo, tag: &str, value: &Snap) -> bool
-    ensures { result ≡ is_some (unions.tagged table.now (unions.models_of table.now (t ∷ [])) tag.now (view value.now)) }
+    ensures { result
+        ≡ is_some (unions.tagged table.now (unions.models_of table.now (t ∷ [])) tag.now (view value.now)) }
 {
     match model_of(table, t) {
         Some(m) => is_literal(literal_at(table, tag, m), value),

@@ -1,6 +1,7 @@
 -- Where none was added yet, each type so far was tried.
 use Rattle.std.proofs.Common.{◌≡◌, ℕ, ◌<◌, true, false}
-use Rattle.type_core.specs.Defaulting.{AreSoFar, IsTried, unknown_count}
+use Rattle.type_core.specs.Defaulting.{AreSoFar, unknown_count}
+use Rattle.type_core.specs.Sound.{IsTried}
 use Rattle.type_core.proofs.defaults.sweep.Given as goal
 
 abbrev pub invariant-loop-t : goal.invariant-loop-t

@@ -1,5 +1,5 @@
 use Rattle.type_core.proofs.Plans.{AreKnown-begun, HoldsPlain-begun}
-use Rattle.type_core.proofs.Drafts.{first_missing, no_fault, IsSound-faultless}
+use Rattle.type_core.proofs.Drafts.{first_missing, IsSound-faultless}
 use Rattle.type_core.proofs.draft.finished.Goals as goal
 
 pub check_types-requires : goal.check_types-requires
@@ -22,8 +22,9 @@ returns-in-Some-clause-wrong c =
     (rw (c.table-2.ensures, c.as_slice.ensures, c.in_ok-tagged.ensures) at c.in-Some.ensures.missing)
     (rw (c.table-2.ensures, c.as_slice.ensures, c.in_ok-tagged.ensures) at c.in-Some.ensures.first)
 
-pub returns-in-None-clause-faultless : goal.returns-in-None-clause-faultless
-returns-in-None-clause-faultless c =
+pub returns-in-None-clause-sound : goal.returns-in-None-clause-sound
+returns-in-None-clause-sound c =
     rw (c.of.ensures, c.in_ok-tagged.ensures)
-    (no_fault c.args.table c.in_ok-defaults.defaults c.in_ok-check_types.ensures.ok (rw c.in_ok-tagged.ensures at c.in_ok-defaults.ensures.made)
+    (IsSound-faultless c.args.table c.args.root c.in_ok-defaults.defaults c.requires.begun c.requires.root c.in_ok-check_types.ensures.ok
+    (rw c.in_ok-tagged.ensures at c.in_ok-defaults.ensures.made) (rw c.in_ok-tagged.ensures at c.in_ok-defaults.ensures.all)
     (rw (c.table-2.ensures, c.as_slice.ensures, c.in_ok-tagged.ensures) at c.in-None.ensures.none))

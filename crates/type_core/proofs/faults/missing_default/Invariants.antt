@@ -1,5 +1,5 @@
 use Rattle.std.proofs.Common.{ℕ, ◌<◌}
-use Rattle.type_core.specs.Passes.{HasDefault}
+use Rattle.type_core.specs.Sound.{HasDefault}
 use Rattle.type_core.proofs.faults.missing_default.Given as goal
 
 abbrev pub invariant-loop-t : goal.invariant-loop-t

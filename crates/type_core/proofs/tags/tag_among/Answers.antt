@@ -1,6 +1,7 @@
-use Rattle.std.proofs.Common.{List, map, sym, ap, ◌∙◌}
+use Rattle.std.proofs.Common.{List, sym, ap, ◌∙◌}
 use Rattle.std.specs.List.{find}
 use Rattle.type_core.specs.declared.shape.Property.{Property}
+use Rattle.type_core.specs.Table.{names_of}
 use Rattle.type_core.specs.Unions as unions
 use Rattle.type_core.proofs.Tagging.{tag_of-several}
 use Rattle.type_core.proofs.tags.tag_among.Goals as goal
@@ -9,5 +10,5 @@ pub returns : goal.returns
 returns c =
     let table = c.args.table.now in
     let models = c.args.models.now in
-    c.first_apart.ensures ∙ ap (λ (ps : List Property). find (unions.tells_apart table models) (map (λ p. p.name) ps)) c.properties.ensures
+    c.first_apart.ensures ∙ ap (λ (ps : List Property). find (unions.tells_apart table models) (names_of ps)) c.properties.ensures
     ∙ sym (tag_of-several table models (record { 0 = 0 }, record { 0 = 0 }) c.if-models-lt2.false)

@@ -3,8 +3,11 @@ use Rattle.type_core.specs.declared.shape.Shape.{Shape}
 use Rattle.type_core.specs.Table.{Table, Plan, plan_of}
 use Rattle.type_core.specs.Faults.{IsFirstFault}
 use Rattle.type_core.proofs.Plans.{same_table}
-use Rattle.type_core.proofs.Drafts.{IfWrong-weaker}
+use Rattle.type_core.proofs.Drafts.{IfWrong-weaker, no_fault_of}
 use Rattle.type_core.proofs.draft.Draft.finish.Goals as goal
+
+pub returns-clause-faultless : goal.returns-clause-faultless
+returns-clause-faultless c = no_fault_of c.finished.result c.finished.ensures.sound
 
 pub returns-clause-wrong : goal.returns-clause-wrong
 returns-clause-wrong c =
