@@ -2,7 +2,5 @@
 #![tactic(auto)]
 
 mod schema;
-#[cfg(test)]
-mod tests;
 
 pub use schema::Schema;

@@ -24,12 +24,15 @@ impl Model for Schema {
 }
 
 impl Schema {
+    /// The schema of these types, with the most changes that a document's history keeps. Schema files
+    /// have at most 100.
     pub fn new(types: Types, history: u32) -> Schema
         ensures { result ≡ record { types = types; history = history } }
     {
         Schema { types, history }
     }
 
+    /// The types, and the models among them.
     pub fn types(&self) -> &Types
         ensures { result.now ≡ self.now.types }
     {

@@ -5,7 +5,8 @@ use Rattle.snap_core.specs.declared.snap.Snap.{Snap}
 use Rattle.snap_core.specs.declared.snap.Field.{Field}
 use Rattle.snap_core.specs.View.{view, fields_view}
 use Rattle.snap_core.proofs.Views.{view-Text}
-use Rattle.schema_form.specs.Forms.{Base, is_taken, base_within, count}
+use Rattle.schema_form.specs.declared.base.Base.{Base}
+use Rattle.schema_form.specs.Forms.{is_taken, base_within, count}
 
 pub count-fields_view : (fs : List Field) → count (fields_view fs) ≡ length fs
 count-fields_view [] = refl

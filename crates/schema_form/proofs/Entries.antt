@@ -8,9 +8,8 @@ use Rattle.snap_core.specs.View.{view, fields_view}
 use Rattle.snap_core.proofs.Views.{entry-fields}
 use Rattle.pointer_core.specs.declared.schema_rule.SchemaRule.TheVariants.{Name}
 use Rattle.schema_form.specs.declared.fault.Fault.{Fault}
-use Rattle.schema_form.specs.Forms.{has_key}
+use Rattle.schema_form.specs.Forms.{has_key, model_in}
 use Rattle.schema_form.specs.Faults.{first, under, unless, type_faults, model_faults, entry_faults}
-use Rattle.schema_form.specs.Inside.{model_in}
 use Rattle.schema_form.proofs.Texts.{bytes_eq-turned}
 
 -- a key that isn't here is in what is left

@@ -8,7 +8,7 @@ use Rattle.snap_core.specs.declared.snap.Field.{Field}
 use Rattle.snap_core.specs.View.{view, items_view, fields_view}
 use Rattle.snap_core.proofs.Views.{entry-fields}
 use Rattle.schema_form.specs.declared.fault.Fault.{Fault}
-use Rattle.schema_form.specs.Faults.{first, lower, under}
+use Rattle.schema_form.specs.Faults.{first, lower, under, member_faults}
 
 pub first-append : (a b : List Fault) → first (a ++ b) ≡ option_or (first a) (first b)
 first-append [] b = refl
@@ -59,6 +59,22 @@ module _ (F : Members (Unit {0}) → List Fault) (G : List ℕ → Value → Lis
   fields-end whole fs i past so_far =
       let P : List Field → Type 0 = λ gs. first (F (fields_view gs)) ≡ whole in
       ap first (sym none) ∙ subst P (drop_all i fs past) so_far
+
+-- the same of the faults of an object's values, which are found inside and lowered
+module _ (faults : List ℕ → Value → List Fault) where
+  pub members-passed : (whole found inner : Option Fault) (token : List ℕ) (fs : List Field) (i : ℕ) (f : Field) → i < length fs → f ≡ get_or fs i f
+      → first (member_faults faults (fields_view (drop i fs))) ≡ whole → found ≡ option_map (lower token) inner → token ≡ f.key → inner ≡ first (faults f.key (view f.value))
+      → is_some found ≡ false → first (member_faults faults (fields_view (drop (i + 1) fs))) ≡ whole
+  members-passed whole found inner token fs i f within here so_far is same was none =
+      fields-passed (member_faults faults) (λ k v. under k (faults k v)) refl (λ k v ms. refl) whole found fs i f within here so_far
+      (first-lowered found inner f.key token (faults f.key (view f.value)) is same was) none
+
+  pub members-found : (whole found inner : Option Fault) (token : List ℕ) (fs : List Field) (i : ℕ) (f : Field) → i < length fs → f ≡ get_or fs i f
+      → first (member_faults faults (fields_view (drop i fs))) ≡ whole → found ≡ option_map (lower token) inner → token ≡ f.key → inner ≡ first (faults f.key (view f.value))
+      → is_some found ≡ true → found ≡ whole
+  members-found whole found inner token fs i f within here so_far is same was some =
+      fields-found (member_faults faults) (λ k v. under k (faults k v)) refl (λ k v ms. refl) whole found fs i f within here so_far
+      (first-lowered found inner f.key token (faults f.key (view f.value)) is same was) some
 
 module _ (F : ℕ → Parts (Unit {0}) → List Fault) (G : Value → List Fault)
     (none : (i : ℕ) → F i no_parts ≡ [])

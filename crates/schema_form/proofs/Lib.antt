@@ -4,3 +4,4 @@ pub mod Texts
 pub mod Shapes
 pub mod Entries
 pub mod Orders
+pub mod Examples

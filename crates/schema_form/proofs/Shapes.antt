@@ -1,16 +1,17 @@
 -- Lists and records that haven't the length that a form wants.
-use Rattle.std.proofs.Common.{◌≡◌, ◌≤◌, ℕ, ◌==◌, ◌<◌, ◌++◌, get_or, Bool, true, false, Option, Some, sym, ◌∙◌, ap, List, [], ◌∷◌, length, refl, arith}
+use Rattle.std.proofs.Common.{◌≡◌, ◌≤◌, ℕ, ◌==◌, ◌<◌, ◌++◌, get_or, Bool, true, false, Option, sym, ◌∙◌, ap, List, [], ◌∷◌, length, refl, arith}
 use Rattle.snap_core.specs.Value.{Value, null, boolean, integer, text, list, dict, no_parts, part, Members}
 use Rattle.snap_core.specs.declared.snap.Snap.{Snap}
 use Rattle.snap_core.specs.declared.snap.Field.{Field}
 use Rattle.snap_core.specs.View.{view, items_view, fields_view}
 use Rattle.snap_core.proofs.Views.{entry-fields}
 use Rattle.schema_form.specs.declared.fault.Fault.{Fault}
-use Rattle.schema_form.specs.declared.words.Form as key_form
-use Rattle.schema_form.specs.Forms.{Form, literal, enumeration, optional, union, refinement, around, unknown, form_of}
+use Rattle.schema_form.specs.declared.words.Form.{Form}
+use Rattle.schema_form.specs.declared.words.Form.TheVariants.{Literal, Enumeration, Optional, Union, Refinement, Around, Unknown}
+use Rattle.schema_form.specs.Forms.{form_of}
 use Rattle.pointer_core.specs.declared.schema_rule.SchemaRule.TheVariants.{Shape, Name}
 use Rattle.schema_form.specs.Faults.{first, here, unless, under, texts_faults, numbered, parts_as_types, type_faults, item_faults, form_faults}
-use Rattle.schema_form.specs.Inside.{enumeration_faults, optional_faults, defaulted_faults, union_faults, refinement_faults, form_found, inside_faults}
+use Rattle.schema_form.specs.Inside.{enumeration_faults, optional_faults, defaulted_faults, union_faults, refinement_faults, inside_faults}
 
 pub enumeration-some : (vs : List Snap) → (length vs == 0) ≡ false → enumeration_faults (list tt (items_view vs)) ≡ texts_faults [] 0 (items_view vs)
 enumeration-some [] some = cc
@@ -58,56 +59,47 @@ formed-one types (g ∷ []) f key one here = rw (here) (rw (entry-fields g) refl
 formed-one types (g ∷ h ∷ fs) f key one here = absurd (omega arith)
 
 -- what stands under a key of a known form
-pub form-inside : (types : Members (Unit {0})) (key : List Fault) (k : List ℕ) (form : Form) (v : Value) → (form ≡ unknown → ⊥)
+pub form-inside : (types : Members (Unit {0})) (key : List Fault) (k : List ℕ) (form : Form) (v : Value) → (form ≡ Unknown → ⊥)
     → form_faults types key k form v (type_faults types v []) (item_faults types v) ≡ key ++ under k (inside_faults types form v)
-form-inside types key k unknown v known = absurd (known refl)
-form-inside types key k around v known = refl
-form-inside types key k literal v known = refl
-form-inside types key k enumeration null known = refl
-form-inside types key k enumeration (boolean b) known = refl
-form-inside types key k enumeration (integer z) known = refl
-form-inside types key k enumeration (text s) known = refl
-form-inside types key k enumeration (list a no_parts) known = refl
-form-inside types key k enumeration (list a (part t ps)) known = refl
-form-inside types key k enumeration (dict a ms) known = refl
-form-inside types key k optional null known = refl
-form-inside types key k optional (boolean b) known = refl
-form-inside types key k optional (integer z) known = refl
-form-inside types key k optional (text s) known = refl
-form-inside types key k optional (list a no_parts) known = refl
-form-inside types key k optional (list a (part t no_parts)) known = refl
-form-inside types key k optional (list a (part t (part d no_parts))) known = refl
-form-inside types key k optional (list a (part t (part d (part e ps)))) known = refl
-form-inside types key k optional (dict a ms) known = refl
-form-inside types key k union null known = refl
-form-inside types key k union (boolean b) known = refl
-form-inside types key k union (integer z) known = refl
-form-inside types key k union (text s) known = refl
-form-inside types key k union (list a no_parts) known = refl
-form-inside types key k union (list a (part t no_parts)) known = refl
-form-inside types key k union (list a (part t (part u ps))) known = refl
-form-inside types key k union (dict a ms) known = refl
-form-inside types key k refinement null known = refl
-form-inside types key k refinement (boolean b) known = refl
-form-inside types key k refinement (integer z) known = refl
-form-inside types key k refinement (text s) known = refl
-form-inside types key k refinement (list a no_parts) known = refl
-form-inside types key k refinement (list a (part t no_parts)) known = refl
-form-inside types key k refinement (list a (part t (part cs no_parts))) known = refl
-form-inside types key k refinement (list a (part t (part cs (part e ps)))) known = refl
-form-inside types key k refinement (dict a ms) known = refl
-
-known-form : (f : key_form.Form) → form_found (Some f) ≡ unknown → ⊥
-known-form key_form.TheVariants.Literal e = cc
-known-form key_form.TheVariants.Enumeration e = cc
-known-form key_form.TheVariants.Optional e = cc
-known-form key_form.TheVariants.Union e = cc
-known-form key_form.TheVariants.Refinement e = cc
-known-form key_form.TheVariants.Around e = cc
+form-inside types key k Unknown v known = absurd (known refl)
+form-inside types key k Around v known = refl
+form-inside types key k Literal v known = refl
+form-inside types key k Enumeration null known = refl
+form-inside types key k Enumeration (boolean b) known = refl
+form-inside types key k Enumeration (integer z) known = refl
+form-inside types key k Enumeration (text s) known = refl
+form-inside types key k Enumeration (list a no_parts) known = refl
+form-inside types key k Enumeration (list a (part t ps)) known = refl
+form-inside types key k Enumeration (dict a ms) known = refl
+form-inside types key k Optional null known = refl
+form-inside types key k Optional (boolean b) known = refl
+form-inside types key k Optional (integer z) known = refl
+form-inside types key k Optional (text s) known = refl
+form-inside types key k Optional (list a no_parts) known = refl
+form-inside types key k Optional (list a (part t no_parts)) known = refl
+form-inside types key k Optional (list a (part t (part d no_parts))) known = refl
+form-inside types key k Optional (list a (part t (part d (part e ps)))) known = refl
+form-inside types key k Optional (dict a ms) known = refl
+form-inside types key k Union null known = refl
+form-inside types key k Union (boolean b) known = refl
+form-inside types key k Union (integer z) known = refl
+form-inside types key k Union (text s) known = refl
+form-inside types key k Union (list a no_parts) known = refl
+form-inside types key k Union (list a (part t no_parts)) known = refl
+form-inside types key k Union (list a (part t (part u ps))) known = refl
+form-inside types key k Union (dict a ms) known = refl
+form-inside types key k Refinement null known = refl
+form-inside types key k Refinement (boolean b) known = refl
+form-inside types key k Refinement (integer z) known = refl
+form-inside types key k Refinement (text s) known = refl
+form-inside types key k Refinement (list a no_parts) known = refl
+form-inside types key k Refinement (list a (part t no_parts)) known = refl
+form-inside types key k Refinement (list a (part t (part cs no_parts))) known = refl
+form-inside types key k Refinement (list a (part t (part cs (part e ps)))) known = refl
+form-inside types key k Refinement (dict a ms) known = refl
 
 -- under a good key of a known form, the first fault is that of what stands there
-pub form-known : (types : Members (Unit {0})) (good : Bool) (key : List ℕ) (f : key_form.Form) (form : Form) (v : Value) (found : Option Fault)
-    → form_found (Some f) ≡ form → good ≡ true → found ≡ first (under key (inside_faults types (form_found (Some f)) v))
+pub form-known : (types : Members (Unit {0})) (good : Bool) (key : List ℕ) (form : Form) (v : Value) (found : Option Fault)
+    → (form ≡ Unknown → ⊥) → good ≡ true → found ≡ first (under key (inside_faults types form v))
     → found ≡ first (form_faults types (unless good Name) key form v (type_faults types v []) (item_faults types v))
-form-known types good key f form v found is good_key h =
-    rw (← is, good_key) (h ∙ ap first (sym (form-inside types [] key (form_found (Some f)) v (known-form f))))
+form-known types good key form v found known is_good h = rw is_good (h ∙ ap first (sym (form-inside types [] key form v known)))

@@ -7,7 +7,10 @@ use Rattle.snap_core.specs.Value.{Value, integer, text, list, dict, Parts, no_pa
 use Rattle.pointer_core.specs.declared.schema_rule.SchemaRule.{SchemaRule}
 use Rattle.pointer_core.specs.declared.schema_rule.SchemaRule.TheVariants.{Shape, Name, Twice, History}
 use Rattle.schema_form.specs.declared.fault.Fault.{Fault}
-use Rattle.schema_form.specs.Forms.{Form, literal, enumeration, optional, union, refinement, around, unknown, form_of, is_word, is_taken, plain_words, identifier_words, has_key, Base, base_of, is_condition}
+use Rattle.schema_form.specs.declared.words.Form.{Form}
+use Rattle.schema_form.specs.declared.words.Form.TheVariants.{Literal, Enumeration, Optional, Union, Refinement, Around, Unknown}
+use Rattle.schema_form.specs.declared.base.Base.{Base}
+use Rattle.schema_form.specs.Forms.{form_of, is_word, is_taken, plain_words, identifier_words, has_key, base_of, is_condition}
 
 -- a rule that isn't met at the place itself
 abbrev pub here : SchemaRule → List Fault
@@ -23,6 +26,11 @@ lower token f = record { path = token ∷ f.path; rule = f.rule }
 
 abbrev pub under : List ℕ → List Fault → List Fault
 under token faults = map (lower token) faults
+
+-- the faults of each value of an object, under its key
+abbrev pub member_faults : (List ℕ → Value → List Fault) → Members (Unit {0}) → List Fault
+member_faults faults no_members = []
+member_faults faults (member k v ms) = under k (faults k v) ++ member_faults faults ms
 
 -- A number that isn't whole is at fault wherever it stands. It is kept as an integer beyond the range of whole numbers.
 abbrev mutual
@@ -58,12 +66,11 @@ base_faults types (text s) = if is_taken s || has_key s types then unless (is_so
 base_faults types _ = here Shape
 
 -- each condition is one of the base's kind
-abbrev pub condition_faults : Option Base → Members (Unit {0}) → List Fault
-condition_faults base no_members = []
-condition_faults base (member k v ms) = under k (if is_condition base k v then number_faults v else here Shape) ++ condition_faults base ms
+abbrev pub condition_faults : Option Base → List ℕ → Value → List Fault
+condition_faults base k v = if is_condition base k v then number_faults v else here Shape
 
 abbrev pub conditions_faults : Option Base → Value → List Fault
-conditions_faults base (dict a ms) = condition_faults base ms
+conditions_faults base (dict a ms) = member_faults (condition_faults base) ms
 conditions_faults base _ = here Shape
 
 -- a word stands for a plain type, or for a type of the schema
@@ -77,14 +84,14 @@ numbered i (f ∷ fs) = under (decimal i) f ++ numbered (i + 1) fs
 
 -- the faults of an object with one key, by its form: `inner` has those of its value and `items` those of its value's items, each as a type expression
 abbrev pub form_faults : Members (Unit {0}) → List Fault → List ℕ → Form → Value → List Fault → List (List Fault) → List Fault
-form_faults types key k unknown v inner items = here Shape
-form_faults types key k around v inner items = key ++ under k inner
-form_faults types key k literal v inner items = key ++ under k (literal_faults v)
-form_faults types key k enumeration (list a (part t ps)) inner items = key ++ under k (texts_faults [] 0 (part t ps))
-form_faults types key k optional (list a (part t (part d no_parts))) inner (first ∷ rest) =
-    key ++ under k (under (codes "0") first ++ under (codes "1") (number_faults d))
-form_faults types key k union (list a (part t (part u ps))) inner items = key ++ under k (numbered 0 items)
-form_faults types key k refinement (list a (part t (part cs no_parts))) inner items =
+form_faults types key k Unknown v inner items = here Shape
+form_faults types key k Around v inner items = key ++ under k inner
+form_faults types key k Literal v inner items = key ++ under k (literal_faults v)
+form_faults types key k Enumeration (list a (part t ps)) inner items = key ++ under k (texts_faults [] 0 (part t ps))
+form_faults types key k Optional (list a (part t (part d no_parts))) inner (one ∷ rest) =
+    key ++ under k (under (codes "0") one ++ under (codes "1") (number_faults d))
+form_faults types key k Union (list a (part t (part u ps))) inner items = key ++ under k (numbered 0 items)
+form_faults types key k Refinement (list a (part t (part cs no_parts))) inner items =
     key ++ under k (under (codes "0") (base_faults types t) ++ under (codes "1") (conditions_faults (base_of types t) cs))
 form_faults types key k form v inner items = key ++ under k (here Shape)
 
@@ -105,22 +112,19 @@ abbrev mutual
   parts_as_types types (part v ps) = type_faults types v [] ∷ parts_as_types types ps
 
 -- the properties of a model are type expressions under names
-abbrev pub property_faults : Members (Unit {0}) → Members (Unit {0}) → List Fault
-property_faults types no_members = []
-property_faults types (member k v ms) = under k (type_faults types v (unless (is_name k) Name)) ++ property_faults types ms
+abbrev pub property_faults : Members (Unit {0}) → List ℕ → Value → List Fault
+property_faults types k v = type_faults types v (unless (is_name k) Name)
 
 abbrev pub properties_faults : Members (Unit {0}) → Value → List Fault
-properties_faults types (dict a ms) = property_faults types ms
+properties_faults types (dict a ms) = member_faults (property_faults types) ms
 properties_faults types _ = here Shape
 
 -- a model has properties; its other parts aren't built yet
-abbrev pub model_part_faults : Members (Unit {0}) → Members (Unit {0}) → List Fault
-model_part_faults types no_members = []
-model_part_faults types (member k v ms) =
-    under k (if bytes_eq k (codes "properties") then properties_faults types v else here Shape) ++ model_part_faults types ms
+abbrev pub model_part_faults : Members (Unit {0}) → List ℕ → Value → List Fault
+model_part_faults types k v = if bytes_eq k (codes "properties") then properties_faults types v else here Shape
 
 abbrev pub model_faults : Members (Unit {0}) → Value → List Fault
-model_faults types (dict a ms) = unless (has_key (codes "properties") ms) Shape ++ model_part_faults types ms
+model_faults types (dict a ms) = unless (has_key (codes "properties") ms) Shape ++ member_faults (model_part_faults types) ms
 model_faults types _ = here Shape
 
 -- an entry of the types is a model or a type expression
@@ -129,12 +133,12 @@ entry_faults types (dict a (member k v no_members)) key =
     if bytes_eq k (codes "model") then key ++ under k (model_faults types v) else type_faults types (dict a (member k v no_members)) key
 entry_faults types v key = type_faults types v key
 
-abbrev pub entries_faults : Members (Unit {0}) → Members (Unit {0}) → List Fault
-entries_faults types no_members = []
-entries_faults types (member k v ms) = under k (entry_faults types v (unless (is_name k && not (is_taken k)) Name)) ++ entries_faults types ms
+-- under a name of its own
+abbrev pub named_faults : Members (Unit {0}) → List ℕ → Value → List Fault
+named_faults types k v = entry_faults types v (unless (is_name k && not (is_taken k)) Name)
 
 abbrev pub types_faults : Value → List Fault
-types_faults (dict a ms) = entries_faults ms ms
+types_faults (dict a ms) = member_faults (named_faults ms) ms
 types_faults _ = here Shape
 
 -- the root is the name of one of the types
@@ -152,10 +156,18 @@ abbrev pub host_faults : Value → List Fault
 host_faults (integer z) = unless (int_eq z (pos 1)) Shape
 host_faults _ = here Shape
 
--- the types of a file; none where there are none
-abbrev pub types_in : Option Value → Members (Unit {0})
-types_in (Some (dict a ms)) = ms
-types_in _ = no_members
+-- the entries of an object; none of any other value, and none where there is no value
+abbrev pub entries : Value → Members (Unit {0})
+entries (dict a ms) = ms
+entries _ = no_members
+
+abbrev pub entries_in : Option Value → Members (Unit {0})
+entries_in (Some v) = entries v
+entries_in None = no_members
+
+-- the types of a file
+abbrev pub types_of : Value → Members (Unit {0})
+types_of file = entries_in (value_at (codes "types") (entries file))
 
 abbrev pub part_faults : Members (Unit {0}) → List ℕ → Value → List Fault
 part_faults types k v =
@@ -165,15 +177,11 @@ part_faults types k v =
     else if bytes_eq k (codes "types") then types_faults v
     else here Shape
 
-abbrev pub parts_faults : Members (Unit {0}) → Members (Unit {0}) → List Fault
-parts_faults types no_members = []
-parts_faults types (member k v ms) = under k (part_faults types k v) ++ parts_faults types ms
-
 -- the faults of a schema file: an object with host, root and types, and maybe history
 abbrev pub file_faults : Value → List Fault
 file_faults (dict a ms) =
     unless (has_key (codes "host") ms && has_key (codes "root") ms && has_key (codes "types") ms) Shape
-    ++ parts_faults (types_in (value_at (codes "types") ms)) ms
+    ++ member_faults (part_faults (types_of (dict a ms))) ms
 file_faults _ = here Shape
 
 -- the first of them

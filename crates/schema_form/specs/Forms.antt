@@ -2,7 +2,11 @@
 use Rattle.std.specs.Prelude.{ℕ, zero, suc, ◌+◌, List, [], ◌∷◌, codes, Bool, true, false, ◌&&◌, ◌||◌, is_some, Option, Some, None, if◌then◌else◌}
 use Rattle.std.specs.List.{list_any}
 use Rattle.std.specs.Str.{bytes_eq}
-use Rattle.snap_core.specs.Value.{Value, integer, text, Members, no_members, member, value_at}
+use Rattle.snap_core.specs.Value.{Value, integer, text, dict, Members, no_members, member, value_at}
+use Rattle.schema_form.specs.declared.words.Form.{Form}
+use Rattle.schema_form.specs.declared.words.Form.TheVariants.{Literal, Enumeration, Optional, Union, Refinement, Around, Unknown}
+use Rattle.schema_form.specs.declared.base.Base.{Base}
+use Rattle.schema_form.specs.declared.base.Base.TheVariants.{Texts, Integers}
 
 -- a word among some words
 abbrev pub is_word : List (List ℕ) → List ℕ → Bool
@@ -20,44 +24,30 @@ identifier_words = codes "identifier" ∷ codes "identifierNumber" ∷ []
 abbrev pub is_taken : List ℕ → Bool
 is_taken word = is_word plain_words word || is_word identifier_words word
 
--- the forms of type expressions that are an object with one key
-pub data Form : Type 0 where
-  literal : Form
-  enumeration : Form
-  optional : Form
-  union : Form
-  refinement : Form
-  -- maybe, maybeNull, array and map, which hold one type expression
-  around : Form
-  -- any other key
-  unknown : Form
-
+-- the words of forms that hold one type expression
 abbrev pub around_words : List (List ℕ)
 around_words = codes "maybe" ∷ codes "maybeNull" ∷ codes "array" ∷ codes "map" ∷ []
 
+-- the form of a type expression that is an object with one key
 abbrev pub form_of : List ℕ → Form
 form_of key =
-    if bytes_eq key (codes "literal") then literal
-    else if bytes_eq key (codes "enumeration") then enumeration
-    else if bytes_eq key (codes "optional") then optional
-    else if bytes_eq key (codes "union") then union
-    else if bytes_eq key (codes "refinement") then refinement
-    else if is_word around_words key then around
-    else unknown
+    if bytes_eq key (codes "literal") then Literal
+    else if bytes_eq key (codes "enumeration") then Enumeration
+    else if bytes_eq key (codes "optional") then Optional
+    else if bytes_eq key (codes "union") then Union
+    else if bytes_eq key (codes "refinement") then Refinement
+    else if is_word around_words key then Around
+    else Unknown
 
 -- whether an object has a key
 abbrev pub has_key : List ℕ → Members (Unit {0}) → Bool
 has_key key ms = is_some (value_at key ms)
 
--- the kinds that may be refined
-pub data Base : Type 0 where
-  texts : Base
-  integers : Base
-
+-- the kind that may be refined that a word stands for
 abbrev pub base_word : List ℕ → Option Base
 base_word word =
-    if bytes_eq word (codes "string") then Some texts
-    else if bytes_eq word (codes "integer") then Some integers
+    if bytes_eq word (codes "string") then Some Texts
+    else if bytes_eq word (codes "integer") then Some Integers
     else None
 
 -- the kind that a type expression is, following at most so many names of these types
@@ -92,6 +82,11 @@ abbrev pub length_words : List (List ℕ)
 length_words = codes "minLength" ∷ codes "maxLength" ∷ []
 
 abbrev pub is_condition : Option Base → List ℕ → Value → Bool
-is_condition (Some integers) key v = is_word bound_words key && is_integer v
-is_condition (Some texts) key v = (is_word length_words key && is_integer v) || (bytes_eq key (codes "startsWith") && is_text v)
+is_condition (Some Integers) key v = is_word bound_words key && is_integer v
+is_condition (Some Texts) key v = (is_word length_words key && is_integer v) || (bytes_eq key (codes "startsWith") && is_text v)
 is_condition None key v = false
+
+-- the model that an entry of the types is, if it is one
+abbrev pub model_in : Value → Option Value
+model_in (dict a (member k v no_members)) = if bytes_eq k (codes "model") then Some v else None
+model_in _ = None

@@ -1,29 +1,12 @@
 -- What stands in a type expression, by its form, as the functions of the pass split it.
-use Rattle.std.specs.Prelude.{List, [], ◌++◌, codes, Option, Some, None, if◌then◌else◌}
-use Rattle.std.specs.Str.{bytes_eq}
-use Rattle.snap_core.specs.Value.{Value, list, dict, no_parts, part, Members, no_members, member}
+use Rattle.std.specs.Prelude.{List, [], ◌++◌, codes}
+use Rattle.snap_core.specs.Value.{Value, list, no_parts, part, Members}
 use Rattle.pointer_core.specs.declared.schema_rule.SchemaRule.TheVariants.{Shape}
 use Rattle.schema_form.specs.declared.fault.Fault.{Fault}
-use Rattle.schema_form.specs.declared.words.Form as key_form
-use Rattle.schema_form.specs.declared.base.Base as code_base
-use Rattle.schema_form.specs.Forms.{Form, literal, enumeration, optional, union, refinement, around, unknown, Base, texts, integers, base_of}
+use Rattle.schema_form.specs.declared.words.Form.{Form}
+use Rattle.schema_form.specs.declared.words.Form.TheVariants.{Literal, Enumeration, Optional, Union, Refinement, Around, Unknown}
+use Rattle.schema_form.specs.Forms.{base_of}
 use Rattle.schema_form.specs.Faults.{here, under, number_faults, literal_faults, texts_faults, base_faults, conditions_faults, numbered, type_faults, parts_as_types}
-
--- the form that the code has found; unknown where it has found none
-abbrev pub form_found : Option key_form.Form → Form
-form_found (Some key_form.TheVariants.Literal) = literal
-form_found (Some key_form.TheVariants.Enumeration) = enumeration
-form_found (Some key_form.TheVariants.Optional) = optional
-form_found (Some key_form.TheVariants.Union) = union
-form_found (Some key_form.TheVariants.Refinement) = refinement
-form_found (Some key_form.TheVariants.Around) = around
-form_found None = unknown
-
--- the kind that the code has found
-abbrev pub base_found : Option code_base.Base → Option Base
-base_found (Some code_base.TheVariants.Texts) = Some texts
-base_found (Some code_base.TheVariants.Integers) = Some integers
-base_found None = None
 
 abbrev pub enumeration_faults : Value → List Fault
 enumeration_faults (list a (part t ps)) = texts_faults [] 0 (part t ps)
@@ -51,15 +34,10 @@ refinement_faults types _ = here Shape
 
 -- the faults of what stands under a key of this form
 abbrev pub inside_faults : Members (Unit {0}) → Form → Value → List Fault
-inside_faults types literal v = literal_faults v
-inside_faults types enumeration v = enumeration_faults v
-inside_faults types optional v = optional_faults types v
-inside_faults types union v = union_faults types v
-inside_faults types refinement v = refinement_faults types v
-inside_faults types around v = type_faults types v []
-inside_faults types unknown v = here Shape
-
--- the model that an entry of the types is, if it is one
-abbrev pub model_in : Value → Option Value
-model_in (dict a (member k v no_members)) = if bytes_eq k (codes "model") then Some v else None
-model_in _ = None
+inside_faults types Literal v = literal_faults v
+inside_faults types Enumeration v = enumeration_faults v
+inside_faults types Optional v = optional_faults types v
+inside_faults types Union v = union_faults types v
+inside_faults types Refinement v = refinement_faults types v
+inside_faults types Around v = type_faults types v []
+inside_faults types Unknown v = here Shape

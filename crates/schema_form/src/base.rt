@@ -3,13 +3,12 @@ ghost use Rattle.std.specs.Prelude.{◌≡◌};
 ghost use Rattle.snap_core.specs.Value.{AreKeyed};
 ghost use Rattle.snap_core.specs.View.{view, fields_view};
 ghost use Rattle.schema_form.specs.Forms as forms;
-ghost use Rattle.schema_form.specs.Inside as inside;
 
 use crate::words::is_taken;
 use snap_core::{Field, Snap, find};
 
 /// The kinds that may be refined.
-#[derive(Clone, Copy, Debug)]
+#[derive(Clone, Copy)]
 pub enum Base {
     Texts,
     Integers,
@@ -25,7 +24,7 @@ pub fn has_key(fields: &[Field], key: &str) -> bool
 
 /// The kind that a word stands for.
 fn base_word(word: &str) -> Option<Base>
-    ensures { inside.base_found result ≡ forms.base_word word.now }
+    ensures { result ≡ forms.base_word word.now }
 {
     match word {
         "string" => Some(Base::Texts),
@@ -38,7 +37,7 @@ fn base_word(word: &str) -> Option<Base>
 /// lead in a circle.
 pub fn base_of(types: &[Field], value: &Snap) -> Option<Base>
     requires { AreKeyed (fields_view types.now) }
-    ensures { inside.base_found result ≡ forms.base_of (fields_view types.now) (view value.now) }
+    ensures { result ≡ forms.base_of (fields_view types.now) (view value.now) }
 {
     let mut at = value;
     for _ in 0..=types.len() {

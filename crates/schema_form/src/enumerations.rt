@@ -15,7 +15,8 @@ use std::collections::BTreeSet;
 
 /// The text that a value is, if it is one.
 pub fn text_in(value: &Snap) -> Option<&str>
-    ensures { MatchOption result (is_text (view value.now) ≡ false) (λ word. view value.now ≡ text word.now) }
+    ensures { MatchOption result (is_text (view value.now) ≡ false)
+        (λ word. view value.now ≡ text word.now) }
 {
     match value {
         Snap::Text(text) => Some(text.text()),
@@ -31,10 +32,10 @@ fn texts_fault(alloc: Global, items: &[Snap]) -> Result<Option<Fault>, AllocErro
     let mut earlier = BTreeSet::new(alloc);
     for (index, item) in items.iter().enumerate() {
         let Some(text) = text_in(item) else {
-            return at_index(alloc, index, here(alloc, SchemaRule::Shape));
+            return at_index(index, here(alloc, SchemaRule::Shape));
         };
         if !earlier.insert(text)? {
-            return at_index(alloc, index, here(alloc, SchemaRule::Twice));
+            return at_index(index, here(alloc, SchemaRule::Twice));
         }
     }
     Ok(None)

@@ -82,18 +82,19 @@ fn form_fault(
     key_is_good: bool,
 ) -> Result<Option<Fault>, AllocError>
     requires { AreKeyed (fields_view types.now) }
-    ensures { let ms = fields_view types.now in let v = view value.now in IfOk result (λ found. found ≡ faults.first
-        (faults.form_faults ms (faults.unless key_is_good SchemaRule.Name) key.now (forms.form_of key.now) v
-        (faults.type_faults ms v []) (faults.item_faults ms v))) }
+    ensures { let ms = fields_view types.now in let v = view value.now in
+        IfOk result (λ found. found ≡ faults.first
+        (faults.form_faults ms (faults.unless key_is_good SchemaRule.Name) key.now
+        (forms.form_of key.now) v (faults.type_faults ms v []) (faults.item_faults ms v))) }
 {
-    let Some(form) = form_of(key) else {
-        return Ok(here(alloc, SchemaRule::Shape));
-    };
-    if !key_is_good {
-        return Ok(here(alloc, SchemaRule::Name));
+    match form_of(key) {
+        Form::Unknown => Ok(here(alloc, SchemaRule::Shape)),
+        _ if !key_is_good => Ok(here(alloc, SchemaRule::Name)),
+        form => {
+            let inner = inside_fault(alloc, form, value, types)?;
+            under(key, inner)
+        }
     }
-    let inner = inside_fault(alloc, form, value, types)?;
-    under(alloc, key, inner)
 }
 
 /// The first fault of what stands under a key of this form.
@@ -106,7 +107,7 @@ fn inside_fault(
 ) -> Result<Option<Fault>, AllocError>
     requires { AreKeyed (fields_view types.now) }
     ensures { IfOk result (λ found. found ≡ faults.first
-        (inside.inside_faults (fields_view types.now) (inside.form_found (Some form)) (view value.now))) }
+        (inside.inside_faults (fields_view types.now) form (view value.now))) }
 {
     match (form, value) {
         (Form::Literal, _) => literal_fault(alloc, value),
@@ -115,7 +116,7 @@ fn inside_fault(
         (Form::Around, _) => type_fault(alloc, value, types, true),
         (Form::Optional, Snap::List(items)) => optional_fault(alloc, items.as_slice(), types),
         (Form::Union, Snap::List(items)) => union_fault(alloc, items.as_slice(), types),
-        (Form::Optional | Form::Union, _) => Ok(here(alloc, SchemaRule::Shape)),
+        (Form::Optional | Form::Union | Form::Unknown, _) => Ok(here(alloc, SchemaRule::Shape)),
     }
 }
 
@@ -134,12 +135,12 @@ fn optional_fault(
         return Ok(here(alloc, SchemaRule::Shape));
     }
     let of = type_fault(alloc, &items[0], types, true)?;
-    let found = under(alloc, "0", of)?;
+    let found = under("0", of)?;
     if found.is_some() {
         return Ok(found);
     }
     let default = number_fault(alloc, &items[1])?;
-    under(alloc, "1", default)
+    under("1", default)
 }
 
 /// The first fault of what stands under `union`: two or more type expressions.
@@ -154,7 +155,7 @@ fn union_fault(alloc: Global, items: &[Snap], types: &[Field]) -> Result<Option<
     }
     for (index, item) in items.iter().enumerate() {
         let inner = type_fault(alloc, item, types, true)?;
-        let found = at_index(alloc, index, inner)?;
+        let found = at_index(index, inner)?;
         if found.is_some() {
             return Ok(found);
         }

@@ -1,6 +1,6 @@
 //! The parts of a schema file: host, root, types and history.
 ghost use Rattle.std.specs.Prelude.{◌≡◌, ◌&&◌, codes, IfOk};
-ghost use Rattle.snap_core.specs.Value.{IsOrdered, AreKeyed, HaveOrder, dict, integer, value_at};
+ghost use Rattle.snap_core.specs.Value.{IsOrdered, AreKeyed, AreOrderedMembers, dict, integer};
 ghost use Rattle.snap_core.specs.View.{view, fields_view};
 ghost use Rattle.schema_form.specs.Faults as faults;
 ghost use Rattle.schema_form.specs.Forms as forms;
@@ -8,10 +8,9 @@ ghost use Rattle.schema_form.specs.Forms as forms;
 use crate::base::has_key;
 use crate::fault::Fault;
 use crate::models::entries_fault;
-use crate::numbers::is_whole;
 use crate::place::{here, under, unless};
 use pointer_core::SchemaRule;
-use snap_core::{Field, Snap, find};
+use snap_core::{Field, Snap, find, is_whole};
 use std::alloc::{AllocError, Global};
 
 /// The fault of a history's length.
@@ -27,7 +26,7 @@ fn history_fault(alloc: Global, value: &Snap) -> Option<Fault>
 fn length_fault(alloc: Global, n: i64) -> Option<Fault>
     ensures { result ≡ faults.first (faults.history_faults (integer n)) }
 {
-    if is_whole(n) {
+    if is_whole(i128::from(n)) {
         unless(alloc, 0 <= n && n <= 100, SchemaRule::History)
     } else {
         here(alloc, SchemaRule::Shape)
@@ -91,14 +90,14 @@ fn part_fault(
 }
 
 fn parts_fault(alloc: Global, parts: &[Field], types: &[Field]) -> Result<Option<Fault>, AllocError>
-    requires ordered { HaveOrder (fields_view parts.now) }
+    requires ordered { AreOrderedMembers (fields_view parts.now) }
     requires keyed { AreKeyed (fields_view types.now) }
     ensures { IfOk result (λ found. found ≡ faults.first
-        (faults.parts_faults (fields_view types.now) (fields_view parts.now))) }
+        (faults.member_faults (faults.part_faults (fields_view types.now)) (fields_view parts.now))) }
 {
     for part in parts {
         let inner = part_fault(alloc, part.key.text(), &part.value, types)?;
-        let found = under(alloc, part.key.text(), inner)?;
+        let found = under(part.key.text(), inner)?;
         if found.is_some() {
             return Ok(found);
         }
@@ -106,22 +105,32 @@ fn parts_fault(alloc: Global, parts: &[Field], types: &[Field]) -> Result<Option
     Ok(None)
 }
 
+/// The entries of an object; none of any other value.
+pub fn entries_of(value: &Snap) -> &[Field]
+    ensures { fields_view result.now ≡ faults.entries (view value.now) }
+{
+    match value {
+        Snap::Dict(fields) => fields.as_slice(),
+        _ => &[],
+    }
+}
+
 /// The types of a file; none where there are none.
 fn types_in(parts: &[Field]) -> &[Field]
-    requires { HaveOrder (fields_view parts.now) }
-    ensures types { fields_view result.now ≡ faults.types_in (value_at (codes "types") (fields_view parts.now)) }
+    requires { AreOrderedMembers (fields_view parts.now) }
+    ensures types { fields_view result.now ≡ faults.types_of (dict tt (fields_view parts.now)) }
     ensures keyed { AreKeyed (fields_view result.now) }
 {
     match find(parts, "types") {
-        Some(Snap::Dict(types)) => types.as_slice(),
-        _ => &[],
+        Some(types) => entries_of(types),
+        None => &[],
     }
 }
 
 /// Whether a file has each part that it must have.
 #[tactic(auto, using(crate::proofs::Orders::keyed_by_order))]
 fn has_parts(parts: &[Field]) -> bool
-    requires { HaveOrder (fields_view parts.now) }
+    requires { AreOrderedMembers (fields_view parts.now) }
     ensures { result ≡ (forms.has_key (codes "host") (fields_view parts.now)
         && forms.has_key (codes "root") (fields_view parts.now)
         && forms.has_key (codes "types") (fields_view parts.now)) }
@@ -130,7 +139,7 @@ fn has_parts(parts: &[Field]) -> bool
 }
 
 fn object_fault(alloc: Global, parts: &[Field]) -> Result<Option<Fault>, AllocError>
-    requires { HaveOrder (fields_view parts.now) }
+    requires { AreOrderedMembers (fields_view parts.now) }
     ensures { IfOk result (λ found. found ≡ faults.first
         (faults.file_faults (dict tt (fields_view parts.now)))) }
 {
@@ -140,8 +149,9 @@ fn object_fault(alloc: Global, parts: &[Field]) -> Result<Option<Fault>, AllocEr
     parts_fault(alloc, parts, types_in(parts))
 }
 
-/// The first fault of a schema file in form, names and repetitions, in the order in which the file
-/// is written with the keys of each object ascending. None where there is none.
+/// The first fault of a schema file, as it was read loosely, in form, names, repetitions and the
+/// range of the history; none where there is none. Faults come in the order of the file with the keys
+/// of each object ascending.
 pub fn first_fault(alloc: Global, file: &Snap) -> Result<Option<Fault>, AllocError>
     requires ordered { IsOrdered (view file.now) }
     ensures { IfOk result (λ found. found ≡ faults.first (faults.file_faults (view file.now))) }

@@ -10,10 +10,9 @@ mod models;
 mod numbers;
 mod place;
 mod refinements;
-#[cfg(test)]
-mod tests;
 mod words;
 
 pub use fault::Fault;
-pub use file::first_fault;
-pub use words::is_taken;
+pub use file::{entries_of, first_fault};
+pub use models::model_in;
+pub use words::{Form, form_of};

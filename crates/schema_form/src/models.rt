@@ -1,13 +1,11 @@
 //! The entries of the types: models and type expressions under names.
-ghost use Rattle.std.specs.Prelude.{◌≡◌, ◌&&◌, not, codes, IfOk, if◌then◌else◌};
+ghost use Rattle.std.specs.Prelude.{◌≡◌, ◌&&◌, not, codes, IfOk};
 ghost use Rattle.std.specs.Option.{option_copied, option_map};
-ghost use Rattle.std.specs.Str.{bytes_eq};
 ghost use Rattle.snap_core.specs.Name.{is_name as is_name_text};
 ghost use Rattle.snap_core.specs.Value.{AreKeyed, dict};
 ghost use Rattle.snap_core.specs.View.{view, fields_view};
 ghost use Rattle.schema_form.specs.Faults as faults;
 ghost use Rattle.schema_form.specs.Forms as forms;
-ghost use Rattle.schema_form.specs.Inside as inside;
 
 use crate::expressions::type_fault;
 use crate::fault::Fault;
@@ -25,12 +23,12 @@ fn named_fault(
 ) -> Result<Option<Fault>, AllocError>
     requires { AreKeyed (fields_view types.now) }
     ensures { IfOk result (λ found. found ≡ faults.first
-        (faults.property_faults (fields_view types.now) (fields_view fields.now))) }
+        (faults.member_faults (faults.property_faults (fields_view types.now)) (fields_view fields.now))) }
 {
     for field in fields {
         let is_good = is_name(field.key.text().as_bytes());
         let inner = type_fault(alloc, &field.value, types, is_good)?;
-        let found = under(alloc, field.key.text(), inner)?;
+        let found = under(field.key.text(), inner)?;
         if found.is_some() {
             return Ok(found);
         }
@@ -61,8 +59,8 @@ fn model_part_fault(
     types: &[Field],
 ) -> Result<Option<Fault>, AllocError>
     requires { AreKeyed (fields_view types.now) }
-    ensures { IfOk result (λ found. found ≡ faults.first (if bytes_eq key.now (codes "properties")
-        then faults.properties_faults (fields_view types.now) (view value.now) else faults.here SchemaRule.Shape)) }
+    ensures { IfOk result (λ found. found ≡ faults.first
+        (faults.model_part_faults (fields_view types.now) key.now (view value.now))) }
 {
     if key == "properties" {
         properties_fault(alloc, value, types)
@@ -78,11 +76,11 @@ fn model_parts_fault(
 ) -> Result<Option<Fault>, AllocError>
     requires { AreKeyed (fields_view types.now) }
     ensures { IfOk result (λ found. found ≡ faults.first
-        (faults.model_part_faults (fields_view types.now) (fields_view parts.now))) }
+        (faults.member_faults (faults.model_part_faults (fields_view types.now)) (fields_view parts.now))) }
 {
     for part in parts {
         let inner = model_part_fault(alloc, part.key.text(), &part.value, types)?;
-        let found = under(alloc, part.key.text(), inner)?;
+        let found = under(part.key.text(), inner)?;
         if found.is_some() {
             return Ok(found);
         }
@@ -117,7 +115,7 @@ fn model_fault(alloc: Global, value: &Snap, types: &[Field]) -> Result<Option<Fa
 }
 
 fn model_among(fields: &[Field]) -> Option<&Snap>
-    ensures { option_map view (option_copied result) ≡ inside.model_in (dict tt (fields_view fields.now)) }
+    ensures { option_map view (option_copied result) ≡ forms.model_in (dict tt (fields_view fields.now)) }
 {
     if fields.len() != 1 {
         return None;
@@ -130,9 +128,9 @@ fn model_among(fields: &[Field]) -> Option<&Snap>
     }
 }
 
-/// What stands under `model` in an entry that is a model.
-fn model_in(value: &Snap) -> Option<&Snap>
-    ensures { option_map view (option_copied result) ≡ inside.model_in (view value.now) }
+/// What stands under `model` in an entry of the types that is a model: an object with this one key.
+pub fn model_in(value: &Snap) -> Option<&Snap>
+    ensures { option_map view (option_copied result) ≡ forms.model_in (view value.now) }
 {
     match value {
         Snap::Dict(fields) => model_among(fields.as_slice()),
@@ -158,7 +156,7 @@ fn entry_fault(
         return Ok(here(alloc, SchemaRule::Name));
     }
     let inner = model_fault(alloc, model, types)?;
-    under(alloc, "model", inner)
+    under("model", inner)
 }
 
 /// Whether an entry may have this name.
@@ -176,12 +174,12 @@ pub fn entries_fault(
 ) -> Result<Option<Fault>, AllocError>
     requires { AreKeyed (fields_view types.now) }
     ensures { IfOk result (λ found. found ≡ faults.first
-        (faults.entries_faults (fields_view types.now) (fields_view entries.now))) }
+        (faults.member_faults (faults.named_faults (fields_view types.now)) (fields_view entries.now))) }
 {
     for entry in entries {
         let is_good = is_free(entry.key.text());
         let inner = entry_fault(alloc, &entry.value, types, is_good)?;
-        let found = under(alloc, entry.key.text(), inner)?;
+        let found = under(entry.key.text(), inner)?;
         if found.is_some() {
             return Ok(found);
         }

@@ -1,25 +1,14 @@
 //! Numbers that aren't whole: they are at fault wherever they stand, and are kept as integers past
 //! the range of whole numbers.
 ghost use Rattle.std.specs.Prelude.{◌≡◌, IfOk};
-ghost use Rattle.snap_core.specs.Value as value;
 ghost use Rattle.snap_core.specs.View.{view, items_view, fields_view};
 ghost use Rattle.schema_form.specs.Faults as faults;
 
 use crate::fault::Fault;
 use crate::place::{at_index, here, under, unless};
 use pointer_core::SchemaRule;
-use snap_core::{Field, Snap};
+use snap_core::{Field, Snap, is_whole};
 use std::alloc::{AllocError, Global};
-
-/// The greatest whole number, and the least one without its sign.
-const MOST: i64 = 9_007_199_254_740_991;
-
-/// Whether an integer is one of the whole numbers, which a double holds one by one.
-pub fn is_whole(n: i64) -> bool
-    ensures { result ≡ value.is_whole n }
-{
-    -MOST <= n && n <= MOST
-}
 
 /// The first number in a value that isn't whole.
 #[cycle(numbers)]
@@ -27,7 +16,7 @@ pub fn number_fault(alloc: Global, value: &Snap) -> Result<Option<Fault>, AllocE
     ensures { IfOk result (λ found. found ≡ faults.first (faults.number_faults (view value.now))) }
 {
     match value {
-        Snap::Int(n) => Ok(unless(alloc, is_whole(*n), SchemaRule::Shape)),
+        Snap::Int(n) => Ok(unless(alloc, is_whole(i128::from(*n)), SchemaRule::Shape)),
         Snap::List(items) => item_numbers(alloc, items.as_slice()),
         Snap::Dict(fields) => field_numbers(alloc, fields.as_slice()),
         _ => Ok(None),
@@ -41,7 +30,7 @@ fn item_numbers(alloc: Global, items: &[Snap]) -> Result<Option<Fault>, AllocErr
 {
     for (index, item) in items.iter().enumerate() {
         let inner = number_fault(alloc, item)?;
-        let found = at_index(alloc, index, inner)?;
+        let found = at_index(index, inner)?;
         if found.is_some() {
             return Ok(found);
         }
@@ -56,7 +45,7 @@ fn field_numbers(alloc: Global, fields: &[Field]) -> Result<Option<Fault>, Alloc
 {
     for field in fields {
         let inner = number_fault(alloc, &field.value)?;
-        let found = under(alloc, field.key.text(), inner)?;
+        let found = under(field.key.text(), inner)?;
         if found.is_some() {
             return Ok(found);
         }

@@ -5,7 +5,6 @@ ghost use Rattle.schema_form.specs.Faults as faults;
 
 use crate::fault::Fault;
 use pointer_core::{Pointer, SchemaRule};
-use snap_core::Txt;
 use std::alloc::{AllocError, Global};
 
 /// A rule that isn't met at the place itself.
@@ -26,12 +25,12 @@ pub fn unless(alloc: Global, holds: bool, rule: SchemaRule) -> Option<Fault>
 }
 
 /// The same fault, seen from one step higher up, where `token` leads down.
-pub fn under(alloc: Global, token: &str, found: Option<Fault>) -> Result<Option<Fault>, AllocError>
+pub fn under(token: &str, found: Option<Fault>) -> Result<Option<Fault>, AllocError>
     ensures { IfOk result (λ lowered. lowered ≡ option_map (faults.lower token.now) found) }
 {
     match found {
-        Some(Fault { mut path, rule }) => {
-            path.push_front(Txt::copy(alloc, token)?)?;
+        Some(Fault { path, rule }) => {
+            let path = path.under(token)?;
             Ok(Some(Fault { path, rule }))
         }
         None => Ok(None),
@@ -39,16 +38,14 @@ pub fn under(alloc: Global, token: &str, found: Option<Fault>) -> Result<Option<
 }
 
 /// The same fault, seen from the list whose item at `index` has it.
-pub fn at_index(
-    alloc: Global,
-    index: usize,
-    found: Option<Fault>,
-) -> Result<Option<Fault>, AllocError>
+pub fn at_index(index: usize, found: Option<Fault>) -> Result<Option<Fault>, AllocError>
     ensures { IfOk result (λ lowered. lowered ≡ option_map (faults.lower (decimal index)) found) }
 {
-    if found.is_none() {
-        return Ok(None);
+    match found {
+        Some(Fault { path, rule }) => {
+            let path = path.under_index(index)?;
+            Ok(Some(Fault { path, rule }))
+        }
+        None => Ok(None),
     }
-    let token = format!(in alloc; "{index}")?;
-    under(alloc, token.as_str(), found)
 }

@@ -1,5 +1,5 @@
 //! Refinements: a base and the conditions on it.
-ghost use Rattle.std.specs.Prelude.{◌≡◌, IfOk, if◌then◌else◌};
+ghost use Rattle.std.specs.Prelude.{◌≡◌, IfOk};
 ghost use Rattle.snap_core.specs.Value.{AreKeyed, list};
 ghost use Rattle.snap_core.specs.View.{view, items_view, fields_view};
 ghost use Rattle.schema_form.specs.Faults as faults;
@@ -16,9 +16,11 @@ use pointer_core::SchemaRule;
 use snap_core::{Field, Snap};
 use std::alloc::{AllocError, Global};
 
-/// The fault of a base, which is a kind that may be refined, or a name that leads to one.
-fn base_fault(alloc: Global, value: &Snap, types: &[Field]) -> Option<Fault>
-    requires { AreKeyed (fields_view types.now) }
+/// The fault of a base, which is a kind that may be refined, or a name that leads to one. The kind
+/// that it is, is given.
+fn base_fault(alloc: Global, value: &Snap, kind: Option<Base>, types: &[Field]) -> Option<Fault>
+    requires keyed { AreKeyed (fields_view types.now) }
+    requires kind { kind ≡ forms.base_of (fields_view types.now) (view value.now) }
     ensures { result ≡ faults.first (faults.base_faults (fields_view types.now) (view value.now)) }
 {
     let Some(word) = text_in(value) else {
@@ -27,12 +29,12 @@ fn base_fault(alloc: Global, value: &Snap, types: &[Field]) -> Option<Fault>
     if !is_taken(word) && !has_key(types, word) {
         return here(alloc, SchemaRule::Name);
     }
-    unless(alloc, base_of(types, value).is_some(), SchemaRule::Shape)
+    unless(alloc, kind.is_some(), SchemaRule::Shape)
 }
 
 /// Whether a key is a condition on this kind, with a value of the condition's own kind.
 fn is_condition(base: Option<Base>, key: &str, value: &Snap) -> bool
-    ensures { result ≡ forms.is_condition (inside.base_found base) key.now (view value.now) }
+    ensures { result ≡ forms.is_condition base key.now (view value.now) }
 {
     match base {
         Some(Base::Integers) => is_bound(key) && is_integer(value),
@@ -80,8 +82,7 @@ fn condition_fault(
     field: &Field,
 ) -> Result<Option<Fault>, AllocError>
     ensures { IfOk result (λ found. found ≡ faults.first
-        (if forms.is_condition (inside.base_found base) field.now.key (view field.now.value)
-        then faults.number_faults (view field.now.value) else faults.here SchemaRule.Shape)) }
+        (faults.condition_faults base field.now.key (view field.now.value))) }
 {
     if is_condition(base, field.key.text(), &field.value) {
         number_fault(alloc, &field.value)
@@ -96,11 +97,11 @@ fn condition_faults(
     fields: &[Field],
 ) -> Result<Option<Fault>, AllocError>
     ensures { IfOk result (λ found. found ≡ faults.first
-        (faults.condition_faults (inside.base_found base) (fields_view fields.now))) }
+        (faults.member_faults (faults.condition_faults base) (fields_view fields.now))) }
 {
     for field in fields {
         let inner = condition_fault(alloc, base, field)?;
-        let found = under(alloc, field.key.text(), inner)?;
+        let found = under(field.key.text(), inner)?;
         if found.is_some() {
             return Ok(found);
         }
@@ -115,7 +116,7 @@ fn conditions_fault(
     value: &Snap,
 ) -> Result<Option<Fault>, AllocError>
     ensures { IfOk result (λ found. found ≡ faults.first
-        (faults.conditions_faults (inside.base_found base) (view value.now))) }
+        (faults.conditions_faults base (view value.now))) }
 {
     match value {
         Snap::Dict(fields) => condition_faults(alloc, base, fields.as_slice()),
@@ -134,12 +135,13 @@ fn refined_fault(
     ensures { IfOk result (λ found. found ≡ faults.first
         (inside.refined_faults (fields_view types.now) (view base.now) (view conditions.now))) }
 {
-    let found = under(alloc, "0", base_fault(alloc, base, types))?;
+    let kind = base_of(types, base);
+    let found = under("0", base_fault(alloc, base, kind, types))?;
     if found.is_some() {
         return Ok(found);
     }
-    let inner = conditions_fault(alloc, base_of(types, base), conditions)?;
-    under(alloc, "1", inner)
+    let inner = conditions_fault(alloc, kind, conditions)?;
+    under("1", inner)
 }
 
 fn items_refined(

@@ -1,7 +1,6 @@
 //! The words of schema files.
 ghost use Rattle.std.specs.Prelude.{◌≡◌};
 ghost use Rattle.schema_form.specs.Forms as forms;
-ghost use Rattle.schema_form.specs.Inside as inside;
 
 /// Whether a word stands for a type, so that no type of a schema may have it as its name.
 pub fn is_taken(word: &str) -> bool
@@ -31,7 +30,7 @@ pub fn is_identifier(word: &str) -> bool
 }
 
 /// The forms of type expressions that are an object with one key.
-#[derive(Clone, Copy, Debug)]
+#[derive(Clone, Copy)]
 pub enum Form {
     Literal,
     Enumeration,
@@ -40,19 +39,21 @@ pub enum Form {
     Refinement,
     /// `maybe`, `maybeNull`, `array` and `map`, which hold one type expression.
     Around,
+    /// Any other key.
+    Unknown,
 }
 
 /// The form that a key stands for.
-pub fn form_of(key: &str) -> Option<Form>
-    ensures { inside.form_found result ≡ forms.form_of key.now }
+pub fn form_of(key: &str) -> Form
+    ensures { result ≡ forms.form_of key.now }
 {
     match key {
-        "literal" => Some(Form::Literal),
-        "enumeration" => Some(Form::Enumeration),
-        "optional" => Some(Form::Optional),
-        "union" => Some(Form::Union),
-        "refinement" => Some(Form::Refinement),
-        "maybe" | "maybeNull" | "array" | "map" => Some(Form::Around),
-        _ => None,
+        "literal" => Form::Literal,
+        "enumeration" => Form::Enumeration,
+        "optional" => Form::Optional,
+        "union" => Form::Union,
+        "refinement" => Form::Refinement,
+        "maybe" | "maybeNull" | "array" | "map" => Form::Around,
+        _ => Form::Unknown,
     }
 }

@@ -1,7 +1,9 @@
 -- How many types a part of a schema stands for depends on no number.
 use Rattle.std.proofs.Common.{◌≡◌, ℕ, suc, ◌+◌, List, [], ◌∷◌, length, Option, Some, None, refl, sym, ap, ap₂, ◌∙◌, length-append}
 use Rattle.snap_core.specs.Value.{Value, null, boolean, integer, text, list, dict, Parts, no_parts, part, Members, no_members, member}
-use Rattle.schema_form.specs.Forms.{Form, literal, enumeration, optional, union, refinement, around, unknown, form_of}
+use Rattle.schema_form.specs.declared.words.Form.{Form}
+use Rattle.schema_form.specs.declared.words.Form.TheVariants.{Literal, Enumeration, Optional, Union, Refinement, Around, Unknown}
+use Rattle.schema_form.specs.Forms.{form_of}
 use Rattle.schema_read.specs.Types.{Numbers, Shapes, shapes_of, item_shapes, part_shapes, form_shapes, in_turn, value_shapes, entry_shapes, entries_shapes, model_in, next_model}
 
 -- as many shapes, from wherever they are numbered
@@ -24,19 +26,19 @@ as_many-in_turn (f ∷ fs) (g ∷ gs) h m n =
     ∙ sym (length-append (g n) (in_turn gs (n + length (g n))))
 
 as_many-form : (key : List ℕ) (form : Form) (v : Value) (f g : Shapes) (fs gs : List Shapes) → AreAsMany f g → AllAsMany fs gs → AreAsMany (form_shapes key form v f fs) (form_shapes key form v g gs)
-as_many-form key around v f g fs gs h hs m n = ap suc (h (m + 1) (n + 1))
-as_many-form key literal v f g fs gs h hs m n = refl
-as_many-form key enumeration v f g fs gs h hs m n = refl
-as_many-form key union v f g fs gs h hs m n = ap suc (as_many-in_turn fs gs hs (m + 1) (n + 1))
-as_many-form key optional (list a (part t (part d no_parts))) f g (i ∷ fs) (j ∷ gs) h hs m n = ap suc (hs.0 (m + 1) (n + 1))
-as_many-form key optional v f g [] (j ∷ gs) h hs m n = absurd hs
-as_many-form key optional v f g (i ∷ fs) [] h hs m n = absurd hs
-as_many-form key optional v f g fs gs h hs m n = refl
-as_many-form key refinement (list a (part t (part d no_parts))) f g (i ∷ fs) (j ∷ gs) h hs m n = ap suc (hs.0 (m + 1) (n + 1))
-as_many-form key refinement v f g [] (j ∷ gs) h hs m n = absurd hs
-as_many-form key refinement v f g (i ∷ fs) [] h hs m n = absurd hs
-as_many-form key refinement v f g fs gs h hs m n = refl
-as_many-form key unknown v f g fs gs h hs m n = refl
+as_many-form key Around v f g fs gs h hs m n = ap suc (h (m + 1) (n + 1))
+as_many-form key Literal v f g fs gs h hs m n = refl
+as_many-form key Enumeration v f g fs gs h hs m n = refl
+as_many-form key Union v f g fs gs h hs m n = ap suc (as_many-in_turn fs gs hs (m + 1) (n + 1))
+as_many-form key Optional (list a (part t (part d no_parts))) f g (i ∷ fs) (j ∷ gs) h hs m n = ap suc (hs.0 (m + 1) (n + 1))
+as_many-form key Optional v f g [] (j ∷ gs) h hs m n = absurd hs
+as_many-form key Optional v f g (i ∷ fs) [] h hs m n = absurd hs
+as_many-form key Optional v f g fs gs h hs m n = refl
+as_many-form key Refinement (list a (part t (part d no_parts))) f g (i ∷ fs) (j ∷ gs) h hs m n = ap suc (hs.0 (m + 1) (n + 1))
+as_many-form key Refinement v f g [] (j ∷ gs) h hs m n = absurd hs
+as_many-form key Refinement v f g (i ∷ fs) [] h hs m n = absurd hs
+as_many-form key Refinement v f g fs gs h hs m n = refl
+as_many-form key Unknown v f g fs gs h hs m n = refl
 
 mutual
   pub as_many : (p q : Numbers) (v : Value) → AreAsMany (shapes_of p v) (shapes_of q v)

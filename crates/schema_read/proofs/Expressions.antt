@@ -4,7 +4,10 @@ use Rattle.std.specs.Str.{bytes_eq}
 use Rattle.snap_core.specs.Value.{Value, text, list, dict, Parts, no_parts, part, Members, no_members, member}
 use Rattle.pointer_core.specs.declared.schema_rule.SchemaRule.TheVariants.{Shape, Name}
 use Rattle.schema_form.specs.declared.fault.Fault.{Fault}
-use Rattle.schema_form.specs.Forms.{Form, literal, enumeration, optional, union, refinement, around, unknown, form_of, is_word, is_taken, plain_words, identifier_words, has_key, Base, base_of, base_word}
+use Rattle.schema_form.specs.declared.words.Form.{Form}
+use Rattle.schema_form.specs.declared.words.Form.TheVariants.{Literal, Enumeration, Optional, Union, Refinement, Around, Unknown}
+use Rattle.schema_form.specs.declared.base.Base.TheVariants.{Texts, Integers}
+use Rattle.schema_form.specs.Forms.{form_of, is_word, is_taken, plain_words, identifier_words, has_key, base_of, base_word}
 use Rattle.schema_form.specs.Faults.{here, unless, under, number_faults, literal_faults, base_faults, conditions_faults, word_faults, numbered, form_faults, type_faults, item_faults, parts_as_types}
 use Rattle.schema_read.proofs.NoFaults.{append_none, under_none, unless_none, here_some}
 
@@ -24,13 +27,13 @@ IsKnown types s = is_word plain_words s ≡ false → has_key s types ≡ true
 -- the steps that show a fact of each type expression without faults
 pub record Steps (types : Members (Unit {0})) (P : Value → Type 0) : Type 0 where
   pub of_word : (s : List ℕ) → IsKnown types s → P (text s)
-  pub of_around : (a : Unit {0}) (k : List ℕ) (v : Value) → form_of k ≡ around → P v → P (dict a (member k v no_members))
-  pub of_literal : (a : Unit {0}) (k : List ℕ) (v : Value) → form_of k ≡ literal → number_faults v ≡ [] → P (dict a (member k v no_members))
-  pub of_enumeration : (a : Unit {0}) (k : List ℕ) (v : Value) → form_of k ≡ enumeration → P (dict a (member k v no_members))
-  pub of_optional : (a b : Unit {0}) (k : List ℕ) (t d : Value) → form_of k ≡ optional → P t → number_faults d ≡ []
+  pub of_around : (a : Unit {0}) (k : List ℕ) (v : Value) → form_of k ≡ Around → P v → P (dict a (member k v no_members))
+  pub of_literal : (a : Unit {0}) (k : List ℕ) (v : Value) → form_of k ≡ Literal → number_faults v ≡ [] → P (dict a (member k v no_members))
+  pub of_enumeration : (a : Unit {0}) (k : List ℕ) (v : Value) → form_of k ≡ Enumeration → P (dict a (member k v no_members))
+  pub of_optional : (a b : Unit {0}) (k : List ℕ) (t d : Value) → form_of k ≡ Optional → P t → number_faults d ≡ []
       → P (dict a (member k (list b (part t (part d no_parts))) no_members))
-  pub of_union : (a b : Unit {0}) (k : List ℕ) (ps : Parts (Unit {0})) → form_of k ≡ union → Each P ps → P (dict a (member k (list b ps) no_members))
-  pub of_refinement : (a b : Unit {0}) (k : List ℕ) (s : List ℕ) (cs : Value) → form_of k ≡ refinement → IsKnown types s
+  pub of_union : (a b : Unit {0}) (k : List ℕ) (ps : Parts (Unit {0})) → form_of k ≡ Union → Each P ps → P (dict a (member k (list b ps) no_members))
+  pub of_refinement : (a b : Unit {0}) (k : List ℕ) (s : List ℕ) (cs : Value) → form_of k ≡ Refinement → IsKnown types s
       → P (dict a (member k (list b (part (text s) (part cs no_parts))) no_members))
 
 IsKnown-word : (types : Members (Unit {0})) (s : List ℕ) (key : List Fault) → type_faults types (text s) key ≡ [] → IsKnown types s
@@ -43,10 +46,10 @@ IsKnown-word types s key h =
 -- the base of a refinement is known
 base_plain : (s : List ℕ) → is_some (base_word s) ≡ true → is_word plain_words s ≡ true
 base_plain s h =
-    elim (bytes_eq s (codes "string")) as (λ b. is_some (if b then Some Base.texts else if bytes_eq s (codes "integer") then Some Base.integers else None) ≡ true
+    elim (bytes_eq s (codes "string")) as (λ b. is_some (if b then Some Texts else if bytes_eq s (codes "integer") then Some Integers else None) ≡ true
     → (b || (bytes_eq s (codes "integer") || (bytes_eq s (codes "boolean") || (bytes_eq s (codes "null") || (bytes_eq s (codes "frozen") || false))))) ≡ true) [
       | true ↦ λ e. refl
-      | false ↦ elim (bytes_eq s (codes "integer")) as (λ b. is_some (if b then Some Base.integers else None) ≡ true
+      | false ↦ elim (bytes_eq s (codes "integer")) as (λ b. is_some (if b then Some Integers else None) ≡ true
           → (b || (bytes_eq s (codes "boolean") || (bytes_eq s (codes "null") || (bytes_eq s (codes "frozen") || false)))) ≡ true) [
             | true ↦ λ e. refl
             | false ↦ λ e. cc
@@ -89,30 +92,30 @@ module _ (types : Members (Unit {0})) (P : Value → Type 0) (steps : Steps type
   of_form : (a : Unit {0}) (k : List ℕ) (form : Form) (v : Value) (key : List Fault) → form_of k ≡ form
       → form_faults types key k form v (type_faults types v []) (item_faults types v) ≡ []
       → (type_faults types v [] ≡ [] → P v) → EachItem (λ t. type_faults types t [] ≡ [] → P t) v → P (dict a (member k v no_members))
-  of_form a k unknown v key e h one items = absurd (here_some Shape h)
-  of_form a k around v key e h one items = steps.of_around a k v e (one (under_none k (type_faults types v []) (append_none key (under k (type_faults types v [])) h).1))
-  of_form a k literal v key e h one items =
+  of_form a k Unknown v key e h one items = absurd (here_some Shape h)
+  of_form a k Around v key e h one items = steps.of_around a k v e (one (under_none k (type_faults types v []) (append_none key (under k (type_faults types v [])) h).1))
+  of_form a k Literal v key e h one items =
       steps.of_literal a k v e (literal_none v (under_none k (literal_faults v) (append_none key (under k (literal_faults v)) h).1))
-  of_form a k enumeration (list b (part t ps)) key e h one items = steps.of_enumeration a k (list b (part t ps)) e
-  of_form a k enumeration v key e h one items = absurd (no_form key k h)
-  of_form a k optional (list b (part t (part d no_parts))) key e h one items =
+  of_form a k Enumeration (list b (part t ps)) key e h one items = steps.of_enumeration a k (list b (part t ps)) e
+  of_form a k Enumeration v key e h one items = absurd (no_form key k h)
+  of_form a k Optional (list b (part t (part d no_parts))) key e h one items =
       let first : List Fault = under (codes "0") (type_faults types t []) in
       let second : List Fault = under (codes "1") (number_faults d) in
       let none = append_none first second (under_none k (first ++ second) (append_none key (under k (first ++ second)) h).1) in
       steps.of_optional a b k t d e (items.0 (under_none (codes "0") (type_faults types t []) none.0)) (under_none (codes "1") (number_faults d) none.1)
-  of_form a k optional v key e h one items = absurd (no_form key k h)
-  of_form a k union (list b (part t (part u ps))) key e h one items =
+  of_form a k Optional v key e h one items = absurd (no_form key k h)
+  of_form a k Union (list b (part t (part u ps))) key e h one items =
       let all : List Fault = numbered 0 (parts_as_types types (part t (part u ps))) in
       steps.of_union a b k (part t (part u ps)) e (each_numbered types P 0 (part t (part u ps)) (under_none k all (append_none key (under k all) h).1) items)
-  of_form a k union v key e h one items = absurd (no_form key k h)
-  of_form a k refinement (list b (part t (part cs no_parts))) key e h one items =
+  of_form a k Union v key e h one items = absurd (no_form key k h)
+  of_form a k Refinement (list b (part t (part cs no_parts))) key e h one items =
       let first : List Fault = under (codes "0") (base_faults types t) in
       let second : List Fault = under (codes "1") (conditions_faults (base_of types t) cs) in
       let none = append_none first second (under_none k (first ++ second) (append_none key (under k (first ++ second)) h).1) in
       let base = IsKnown-base types t (under_none (codes "0") (base_faults types t) none.0) in
       let Q : Value → Type 0 = λ u. P (dict a (member k (list b (part u (part cs no_parts))) no_members)) in
       subst Q (sym base.1) (steps.of_refinement a b k base.0 cs e base.2)
-  of_form a k refinement v key e h one items = absurd (no_form key k h)
+  of_form a k Refinement v key e h one items = absurd (no_form key k h)
 
   mutual
     pub of_type : (v : Value) (key : List Fault) → type_faults types v key ≡ [] → P v

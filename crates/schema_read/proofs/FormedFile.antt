@@ -3,17 +3,16 @@ use Rattle.std.proofs.Common.{◌≡◌, ℕ, suc, ◌+◌, ◌≤◌, List, [],
 use Rattle.std.specs.Prelude.{All}
 use Rattle.std.proofs.lemmas.List.{length-map}
 use Rattle.std.proofs.lemmas.List.Elements.{All-head, All-tail}
-use Rattle.snap_core.specs.Value.{Value, Members, IsOrdered, HaveOrder}
+use Rattle.snap_core.specs.Value.{Value, Members, IsOrdered, AreOrderedMembers}
 use Rattle.pointer_core.specs.Path.{Path}
 use Rattle.pointer_core.specs.declared.schema_rule.SchemaRule.{SchemaRule}
 use Rattle.type_core.specs.declared.shape.Shape.{Shape}
 use Rattle.type_core.specs.declared.shape.ModelType.{ModelType}
 use Rattle.type_core.specs.Table.{plan_of}
 use Rattle.type_core.specs.Faults.{HasFault}
-use Rattle.schema_form.specs.Faults.{entries_faults, file_faults}
+use Rattle.schema_form.specs.Faults.{types_of, member_faults, named_faults, file_faults}
 use Rattle.schema_read.specs.Types.{type_no, expression_shapes, own_shapes, models_in, table_of}
 use Rattle.schema_read.specs.Places.{places_of}
-use Rattle.schema_read.specs.Schema.{types_of}
 use Rattle.schema_read.specs.Assembly.{put_together, AreModels, AreWhole}
 use Rattle.schema_read.proofs.PlaceCounts.{place_at}
 use Rattle.schema_read.proofs.ModelNumbers.{own-models_in}
@@ -35,7 +34,7 @@ AreModels-fit count own (m ∷ ms) fit numbered =
     )
 
 -- the types without faults are whole
-pub AreWhole-types : (types : Members (Unit {0})) → entries_faults types types ≡ [] → HaveOrder types → AreWhole (expression_shapes types) (models_in types)
+pub AreWhole-types : (types : Members (Unit {0})) → member_faults (named_faults types) types ≡ [] → AreOrderedMembers types → AreWhole (expression_shapes types) (models_in types)
 AreWhole-types types h ordered =
     let shapes : List Shape = expression_shapes types in
     let own : List Shape = own_shapes 0 (models_in types) in

@@ -6,7 +6,7 @@ pub mod Filling
 pub mod FirstFault
 pub mod Formed
 pub mod FormedFile
-pub mod Lengths
+pub mod LawLemmas
 pub mod Lone
 pub mod ModelNumbers
 pub mod Naming

@@ -1,11 +1,11 @@
 -- A record with one entry, and one with another number of them.
-use Rattle.std.proofs.Common.{◌≡◌, ◌≢◌, ℕ, List, [], ◌∷◌, length, get_or, None, refl, sym, ap, ◌∙◌, subst, arith}
+use Rattle.std.proofs.Common.{◌≡◌, ◌≢◌, ℕ, List, [], ◌∷◌, length, get_or, refl, sym, ap, ◌∙◌, subst, arith}
 use Rattle.snap_core.specs.Value.{Value, null, boolean, integer, text, list, dict, Members, no_members, member}
 use Rattle.snap_core.specs.declared.snap.Field.{Field}
 use Rattle.snap_core.specs.View.{view, entry, fields_view}
 use Rattle.snap_core.proofs.Views.{entry-fields}
-use Rattle.schema_read.specs.Schema.{entries}
-use Rattle.schema_read.specs.Types.{model_in, properties_in}
+use Rattle.schema_form.specs.Faults.{entries}
+use Rattle.schema_read.specs.Types.{properties_in}
 
 pub alone : (fs : List Field) (f : Field) → length fs ≡ 1 → f ≡ get_or fs 0 f → fields_view fs ≡ member f.key (view f.value) no_members
 alone [] f one is = absurd (omega (arith, one))
@@ -13,11 +13,6 @@ alone (g ∷ []) f one is =
     let P : List ℕ × Value → Type 0 = λ e. member e.0 e.1 no_members ≡ member f.key (view f.value) no_members in
     subst P (sym (entry-fields g)) (ap (λ (h : Field). member h.key (view h.value) no_members) (sym is))
 alone (g ∷ h ∷ fs) f one is = absurd (omega (arith, one))
-
-pub model_none : (fs : List Field) → length fs ≢ 1 → model_in (dict tt (fields_view fs)) ≡ None
-model_none [] other = refl
-model_none (f ∷ []) other = absurd (other refl)
-model_none (f ∷ g ∷ fs) other = refl
 
 properties_alone : (k : List ℕ) (v : Value) → properties_in (dict tt (member k v no_members)) ≡ entries v
 properties_alone k null = refl

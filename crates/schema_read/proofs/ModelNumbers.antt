@@ -5,8 +5,9 @@ use Rattle.std.proofs.lemmas.Option.{same_Some}
 use Rattle.snap_core.specs.Value.{Value, text, Members, no_members, member, value_at}
 use Rattle.snap_core.specs.declared.number.ModelNo.{ModelNo}
 use Rattle.type_core.specs.declared.shape.ModelType.{ModelType}
+use Rattle.schema_form.specs.Faults.{entries, types_of}
 use Rattle.schema_read.specs.Types.{Numbers, model_in, entry_shapes, next_model, expression_shapes, numbers_of, models_of, models_in, model_within}
-use Rattle.schema_read.specs.Schema.{entries, types_of, root_in, root_of}
+use Rattle.schema_read.specs.Schema.{root_in, root_of}
 
 -- how many of the entries are models
 abbrev pub model_count : Members (Unit {0}) → ℕ

@@ -1,16 +1,15 @@
 -- In a file without faults in form what stands for a name is one.
 use Rattle.std.proofs.Common.{◌≡◌, [], inl, inr}
 use Rattle.snap_core.specs.Value.{Value, Members, no_members, member}
-use Rattle.schema_form.specs.Faults.{property_faults, entry_faults, entries_faults, file_faults}
+use Rattle.schema_form.specs.Faults.{types_of, member_faults, property_faults, entry_faults, named_faults, file_faults}
 use Rattle.schema_form.specs.declared.fault.Fault.{Fault}
 use Rattle.std.proofs.Common.{List}
 use Rattle.schema_read.specs.Types.{model_in}
 use Rattle.schema_read.specs.Named.{AreNames, HasNames, HaveNames}
-use Rattle.schema_read.specs.Schema.{types_of}
 use Rattle.schema_read.proofs.Formed.{entry_cases, property_parts, entries_parts}
 use Rattle.schema_read.proofs.File.{types_formed}
 
-AreNames-properties : (types ps : Members (Unit {0})) → property_faults types ps ≡ [] → AreNames ps
+AreNames-properties : (types ps : Members (Unit {0})) → member_faults (property_faults types) ps ≡ [] → AreNames ps
 AreNames-properties types no_members h = tt
 AreNames-properties types (member k v ps) h =
     let none = property_parts types k v ps h in
@@ -22,7 +21,7 @@ HasNames-entry types v key h = elim (entry_cases types v key h) [
   | inr c ↦ rw c.0 tt
 ]
 
-HaveNames-entries : (types ms : Members (Unit {0})) → entries_faults types ms ≡ [] → HaveNames ms
+HaveNames-entries : (types ms : Members (Unit {0})) → member_faults (named_faults types) ms ≡ [] → HaveNames ms
 HaveNames-entries types no_members h = tt
 HaveNames-entries types (member k v ms) h =
     let none = entries_parts types k v ms h in

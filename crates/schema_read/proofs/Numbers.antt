@@ -4,22 +4,22 @@ use Rattle.std.specs.Str.{bytes_eq}
 use Rattle.snap_core.specs.Value.{Members, no_members, member, value_at}
 use Rattle.type_core.specs.declared.shape.Shape.{Shape}
 use Rattle.schema_form.specs.Forms.{has_key}
-use Rattle.schema_form.specs.Faults.{entries_faults}
-use Rattle.schema_read.specs.Types.{Numbers, entry_shapes, next_model, entries_shapes, number_within, numbers_of, expression_shapes}
-use Rattle.schema_read.proofs.Lengths.{length-entry_shapes}
+use Rattle.schema_form.specs.Faults.{member_faults, named_faults}
+use Rattle.schema_read.specs.Types.{Numbers, entry_shapes, count_of, next_model, entries_shapes, number_within, numbers_of, expression_shapes}
+use Rattle.schema_read.proofs.Counts.{as_many-entry}
 use Rattle.schema_read.proofs.Formed.{entries_parts}
 use Rattle.schema_read.proofs.PlaceCounts.{entry-some}
 
 pub number_within-below : (types : Members (Unit {0})) (numbers : Numbers) (ms : Members (Unit {0})) (m n : ℕ) (name : List ℕ)
-    → entries_faults types ms ≡ [] → has_key name ms ≡ true → number_within ms n name < n + length (entries_shapes numbers ms m n)
+    → member_faults (named_faults types) ms ≡ [] → has_key name ms ≡ true → number_within ms n name < n + length (entries_shapes numbers ms m n)
 number_within-below types numbers no_members m n name h known = cc
 number_within-below types numbers (member k v ms) m n name h known =
     let none = entries_parts types k v ms h in
     let first : List Shape = entry_shapes numbers m v n in
     let rest : List Shape = entries_shapes numbers ms (next_model m v) (n + length first) in
-    let next : ℕ = n + length (entry_shapes (λ s. 0) 0 v n) in
+    let next : ℕ = n + count_of v in
     let some : 0 < length first = entry-some types numbers m v _ n none.2 in
-    let same : length (entry_shapes (λ s. 0) 0 v n) ≡ length first = length-entry_shapes (λ s. 0) numbers v 0 m n n in
+    let same : count_of v ≡ length first = as_many-entry (λ name. 0) numbers 0 m v 0 n in
     let long : length (first ++ rest) ≡ length first + length rest = length-append first rest in
     elim (bytes_eq name k) as (λ b. is_some (if b then Some v else value_at name ms) ≡ true
     → (if b then n else number_within ms next name) < n + length (first ++ rest)) [
@@ -27,6 +27,6 @@ number_within-below types numbers (member k v ms) m n name h known =
       | false ↦ λ e. rw same (let later = number_within-below types numbers ms (next_model m v) (n + length first) name none.3 e in omega arith)
     ] known
 
-pub numbers_of-below : (types : Members (Unit {0})) (name : List ℕ) → entries_faults types types ≡ [] → has_key name types ≡ true
+pub numbers_of-below : (types : Members (Unit {0})) (name : List ℕ) → member_faults (named_faults types) types ≡ [] → has_key name types ≡ true
     → numbers_of types name < length (expression_shapes types)
 numbers_of-below types name h known = let below = number_within-below types (numbers_of types) types 0 0 name h known in omega arith

@@ -7,14 +7,14 @@ use Rattle.pointer_core.specs.Path.{Path}
 use Rattle.pointer_core.specs.declared.schema_rule.SchemaRule.TheVariants.{Shape}
 use Rattle.type_core.specs.declared.shape.Shape.{Shape as TypeShape}
 use Rattle.schema_form.specs.declared.fault.Fault.{Fault}
-use Rattle.schema_form.specs.Faults.{type_faults, property_faults, entry_faults, entries_faults}
+use Rattle.schema_form.specs.Faults.{member_faults, type_faults, property_faults, entry_faults, named_faults}
 use Rattle.schema_read.specs.Types.{Numbers, in_turn, shapes_of, part_shapes, value_shapes, model_in, entry_shapes, next_model, entries_shapes, numbers_of, expression_shapes}
 use Rattle.schema_read.specs.Places.{below, numbered, type_places, part_places, property_places, entry_places, entries_places, places_of}
 use Rattle.schema_read.proofs.NoFaults.{here_some}
 use Rattle.schema_read.proofs.Expressions.{Each, Steps, of_type}
 use Rattle.schema_read.proofs.Formed.{entry_cases, property_parts, entries_parts}
 
-length-below : (token : List ℕ) (ps : List Path) → length (below token ps) ≡ length ps
+pub length-below : (token : List ℕ) (ps : List Path) → length (below token ps) ≡ length ps
 length-below token ps = length-map ps (λ p. token ∷ p)
 
 -- as many types as places
@@ -58,7 +58,7 @@ pub shapes-some : (types : Members (Unit {0})) (numbers : Numbers) (v : Value) (
     → 0 < length (shapes_of numbers v n)
 shapes-some types numbers v key n h = omega (arith, length-type_places types numbers v key n h, places-some types v key h)
 
-length-property_places : (types : Members (Unit {0})) (numbers : Numbers) (ms : Members (Unit {0})) (n : ℕ) → property_faults types ms ≡ []
+length-property_places : (types : Members (Unit {0})) (numbers : Numbers) (ms : Members (Unit {0})) (n : ℕ) → member_faults (property_faults types) ms ≡ []
     → length (in_turn (value_shapes numbers ms) n) ≡ length (property_places ms)
 length-property_places types numbers no_members n h = refl
 length-property_places types numbers (member k v ms) n h =
@@ -89,7 +89,7 @@ pub entry-some : (types : Members (Unit {0})) (numbers : Numbers) (m : ℕ) (v :
     → 0 < length (entry_shapes numbers m v n)
 entry-some types numbers m v key n h = omega (arith, length-entry_places types numbers m v key n h, entry_places-some types v key h)
 
-pub length-entries_places : (types : Members (Unit {0})) (numbers : Numbers) (m : ℕ) (ms : Members (Unit {0})) (n : ℕ) → entries_faults types ms ≡ []
+pub length-entries_places : (types : Members (Unit {0})) (numbers : Numbers) (m : ℕ) (ms : Members (Unit {0})) (n : ℕ) → member_faults (named_faults types) ms ≡ []
     → length (entries_shapes numbers ms m n) ≡ length (entries_places ms)
 length-entries_places types numbers m no_members n h = refl
 length-entries_places types numbers m (member k v ms) n h =
@@ -100,10 +100,10 @@ length-entries_places types numbers m (member k v ms) n h =
     let more : length rest ≡ length (entries_places ms) = length-entries_places types numbers (next_model m v) ms (n + length first) none.3 in
     omega (arith, length-append first rest, length-append (below k (entry_places (model_in v) v)) (entries_places ms), length-below k (entry_places (model_in v) v))
 
-pub length-places_of : (types : Members (Unit {0})) → entries_faults types types ≡ [] → length (places_of types) ≡ length (expression_shapes types)
+pub length-places_of : (types : Members (Unit {0})) → member_faults (named_faults types) types ≡ [] → length (places_of types) ≡ length (expression_shapes types)
 length-places_of types h = length-below (codes "types") (entries_places types) ∙ sym (length-entries_places types (numbers_of types) 0 types 0 h)
 
 -- each type of an expression has its place
-pub place_at : (types : Members (Unit {0})) (t : ℕ) → entries_faults types types ≡ [] → t < length (expression_shapes types)
+pub place_at : (types : Members (Unit {0})) (t : ℕ) → member_faults (named_faults types) types ≡ [] → t < length (expression_shapes types)
     → (path : Path) × (slice_get (places_of types) t ≡ Some path)
 place_at types t h within = (get_or (places_of types) t [], slice_get-get_or (places_of types) t [] (omega (arith, length-places_of types h)))

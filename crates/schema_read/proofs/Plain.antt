@@ -1,6 +1,6 @@
 -- Values in order without a fault in their numbers are plain.
 use Rattle.std.proofs.Common.{◌≡◌, ℕ, ◌+◌, [], decimal, sym, subst}
-use Rattle.snap_core.specs.Value.{Value, null, boolean, integer, text, list, dict, Parts, no_parts, part, Members, no_members, member, is_whole, IsPlain, ArePlain, AreAscending, IsOrdered, AreOrdered, HaveOrder}
+use Rattle.snap_core.specs.Value.{Value, null, boolean, integer, text, list, dict, Parts, no_parts, part, Members, no_members, member, is_whole, IsPlain, ArePlain, ArePlainMembers, IsOrdered, AreOrdered, AreOrderedMembers}
 use Rattle.snap_core.specs.View.{view}
 use Rattle.snap_core.specs.Unview.{snap_of}
 use Rattle.snap_core.proofs.Views.{view-snap_of}
@@ -15,7 +15,7 @@ mutual
   IsPlain-ordered (integer z) ordered h = unless_none (is_whole z) Shape h
   IsPlain-ordered (text s) ordered h = tt
   IsPlain-ordered (list a ps) ordered h = ArePlain-ordered 0 ps ordered h
-  IsPlain-ordered (dict a ms) ordered h = AreAscending-ordered ms ordered h
+  IsPlain-ordered (dict a ms) ordered h = ArePlainMembers-ordered ms ordered h
 
   ArePlain-ordered : (i : ℕ) (ps : Parts (Unit {0})) → AreOrdered ps → items_numbers i ps ≡ [] → ArePlain ps
   ArePlain-ordered i no_parts ordered h = tt
@@ -23,11 +23,11 @@ mutual
       let none = append_none (under (decimal i) (number_faults v)) (items_numbers (i + 1) ps) h in
       (IsPlain-ordered v ordered.0 (under_none (decimal i) (number_faults v) none.0), ArePlain-ordered (i + 1) ps ordered.1 none.1)
 
-  AreAscending-ordered : (ms : Members (Unit {0})) → HaveOrder ms → members_numbers ms ≡ [] → AreAscending ms
-  AreAscending-ordered no_members ordered h = tt
-  AreAscending-ordered (member k v ms) ordered h =
+  ArePlainMembers-ordered : (ms : Members (Unit {0})) → AreOrderedMembers ms → members_numbers ms ≡ [] → ArePlainMembers ms
+  ArePlainMembers-ordered no_members ordered h = tt
+  ArePlainMembers-ordered (member k v ms) ordered h =
       let none = append_none (under k (number_faults v)) (members_numbers ms) h in
-      (IsPlain-ordered v ordered.0 (under_none k (number_faults v) none.0), ordered.1, AreAscending-ordered ms ordered.2 none.1)
+      (IsPlain-ordered v ordered.0 (under_none k (number_faults v) none.0), ordered.1, ArePlainMembers-ordered ms ordered.2 none.1)
 
 -- so is what its `Snap` stands for
 pub IsPlain-snap_of : (v : Value) → IsOrdered v → number_faults v ≡ [] → IsPlain (view (snap_of v))

@@ -3,17 +3,17 @@ use Rattle.std.proofs.Common.{◌≡◌, ℕ, ◌+◌, ◌<◌, ◌≤◌, List,
 use Rattle.std.specs.Prelude.{All}
 use Rattle.std.proofs.lemmas.List.Elements.{All-nil, All-cons}
 use Rattle.snap_core.specs.Name.{is_name}
-use Rattle.snap_core.specs.Value.{Value, Members, no_members, member, IsOrdered, HaveOrder, ComesBefore as KeyComesBefore}
+use Rattle.snap_core.specs.Value.{Value, Members, no_members, member, IsOrdered, AreOrderedMembers, ComesBefore, keys_of}
 use Rattle.type_core.specs.declared.shape.Shape.{Shape}
 use Rattle.type_core.specs.declared.shape.Property.{Property}
 use Rattle.type_core.specs.declared.shape.ModelType.{ModelType}
-use Rattle.type_core.specs.Table.{ComesBefore, AreNamed, AreTyped}
-use Rattle.schema_form.specs.Faults.{property_faults, entry_faults, entries_faults}
+use Rattle.type_core.specs.Table.{names_of, AreNamed, AreTyped}
+use Rattle.schema_form.specs.Faults.{member_faults, property_faults, entry_faults, named_faults}
 use Rattle.schema_form.specs.declared.fault.Fault.{Fault}
 use Rattle.schema_read.specs.Types.{Numbers, type_no, shapes_of, in_turn, value_shapes, model_in, entry_shapes, next_model, entries_shapes, numbers_of, expression_shapes, properties_of, model_before, models_of, models_in}
 use Rattle.schema_read.proofs.Formed.{entry_cases, property_parts, entries_parts}
 use Rattle.schema_read.proofs.PlaceCounts.{shapes-some}
-use Rattle.schema_read.proofs.Whole.{HaveOrder-model_in}
+use Rattle.schema_read.proofs.Whole.{AreOrderedMembers-model_in}
 
 -- a model has a name, and properties under names that ascend, of some of the first so many types
 pub record IsFit (count : ℕ) (model : ModelType) : Type 0 where
@@ -22,17 +22,17 @@ pub record IsFit (count : ℕ) (model : ModelType) : Type 0 where
   pub named : AreNamed model.properties
   pub typed : AreTyped count model.properties
 
-ComesBefore-properties_of : (numbers : Numbers) (name : List ℕ) (ps : Members (Unit {0})) (n : ℕ) → KeyComesBefore name ps → ComesBefore name (properties_of numbers ps n)
+ComesBefore-properties_of : (numbers : Numbers) (name : List ℕ) (ps : Members (Unit {0})) (n : ℕ) → ComesBefore name (keys_of ps) → ComesBefore name (names_of (properties_of numbers ps n))
 ComesBefore-properties_of numbers name no_members n h = tt
 ComesBefore-properties_of numbers name (member k v ps) n h = h
 
-pub AreNamed-properties_of : (numbers : Numbers) (ps : Members (Unit {0})) (n : ℕ) → HaveOrder ps → AreNamed (properties_of numbers ps n)
+pub AreNamed-properties_of : (numbers : Numbers) (ps : Members (Unit {0})) (n : ℕ) → AreOrderedMembers ps → AreNamed (properties_of numbers ps n)
 AreNamed-properties_of numbers no_members n ordered = tt
 AreNamed-properties_of numbers (member k v ps) n ordered =
     let next : ℕ = n + length (shapes_of numbers v n) in
     (ComesBefore-properties_of numbers k ps next ordered.1, AreNamed-properties_of numbers ps next ordered.2)
 
-pub AreTyped-properties_of : (count : ℕ) (types : Members (Unit {0})) (numbers : Numbers) (ps : Members (Unit {0})) (n : ℕ) → property_faults types ps ≡ []
+pub AreTyped-properties_of : (count : ℕ) (types : Members (Unit {0})) (numbers : Numbers) (ps : Members (Unit {0})) (n : ℕ) → member_faults (property_faults types) ps ≡ []
     → n + length (in_turn (value_shapes numbers ps) n) ≤ count → AreTyped count (properties_of numbers ps n)
 AreTyped-properties_of count types numbers no_members n h end = All-nil (λ (p : Property). p.of.0 < count)
 AreTyped-properties_of count types numbers (member k v ps) n h end =
@@ -44,7 +44,7 @@ AreTyped-properties_of count types numbers (member k v ps) n h end =
     All-cons (λ (p : Property). p.of.0 < count) (record { name = k; of = type_no n }) (properties_of numbers ps (n + length first)) (omega arith)
     (AreTyped-properties_of count types numbers ps (n + length first) none.2 (omega arith))
 
-pub names-properties_of : (types : Members (Unit {0})) (numbers : Numbers) (ps : Members (Unit {0})) (n : ℕ) → property_faults types ps ≡ []
+pub names-properties_of : (types : Members (Unit {0})) (numbers : Numbers) (ps : Members (Unit {0})) (n : ℕ) → member_faults (property_faults types) ps ≡ []
     → All (λ (p : Property). IsTrue (is_name p.name)) (properties_of numbers ps n)
 names-properties_of types numbers no_members n h = All-nil (λ (p : Property). IsTrue (is_name p.name))
 names-properties_of types numbers (member k v ps) n h =
@@ -54,7 +54,7 @@ names-properties_of types numbers (member k v ps) n h =
     (names-properties_of types numbers ps next none.2)
 
 pub IsFit-model : (count : ℕ) (types : Members (Unit {0})) (numbers : Numbers) (name : List ℕ) (ps : Members (Unit {0})) (n own : ℕ) → IsTrue (is_name name)
-    → property_faults types ps ≡ [] → HaveOrder ps → n + length (in_turn (value_shapes numbers ps) n) ≤ count
+    → member_faults (property_faults types) ps ≡ [] → AreOrderedMembers ps → n + length (in_turn (value_shapes numbers ps) n) ≤ count
     → IsFit count (record { name = name; properties = properties_of numbers ps n; own = type_no own })
 IsFit-model count types numbers name ps n own is h ordered end = record {
   name = is;
@@ -70,11 +70,11 @@ IsFit-entry count types numbers name v key m n own rest is h ordered end others 
   | inl c ↦
       let room = rw c.1 at end in
       rw c.1 (All-cons (IsFit count) (record { name = name; properties = properties_of numbers c.0 (n + 1); own = type_no own }) rest
-      (IsFit-model count types numbers name c.0 (n + 1) own is c.2 (HaveOrder-model_in v c.0 c.1 ordered) (omega arith)) others)
+      (IsFit-model count types numbers name c.0 (n + 1) own is c.2 (AreOrderedMembers-model_in v c.0 c.1 ordered) (omega arith)) others)
   | inr c ↦ rw c.0 others
 ]
 
-pub AreFit-models_of : (count : ℕ) (types : Members (Unit {0})) (numbers : Numbers) (ms : Members (Unit {0})) (first m n : ℕ) → entries_faults types ms ≡ [] → HaveOrder ms
+pub AreFit-models_of : (count : ℕ) (types : Members (Unit {0})) (numbers : Numbers) (ms : Members (Unit {0})) (first m n : ℕ) → member_faults (named_faults types) ms ≡ [] → AreOrderedMembers ms
     → n + length (entries_shapes numbers ms m n) ≤ count → All (IsFit count) (models_of numbers ms first m n)
 AreFit-models_of count types numbers no_members first m n h ordered end = All-nil (IsFit count)
 AreFit-models_of count types numbers (member k v ms) first m n h ordered end =
@@ -86,7 +86,7 @@ AreFit-models_of count types numbers (member k v ms) first m n h ordered end =
     (AreFit-models_of count types numbers ms first (next_model m v) (n + length one) none.3 ordered.2 (omega arith))
 
 -- each model is fit where there are at least the types of the expressions
-pub AreFit-models_in : (types : Members (Unit {0})) (count : ℕ) → entries_faults types types ≡ [] → HaveOrder types → length (expression_shapes types) ≤ count
+pub AreFit-models_in : (types : Members (Unit {0})) (count : ℕ) → member_faults (named_faults types) types ≡ [] → AreOrderedMembers types → length (expression_shapes types) ≤ count
     → All (IsFit count) (models_in types)
 AreFit-models_in types count h ordered long =
     AreFit-models_of count types (numbers_of types) types (length (expression_shapes types)) 0 0 h ordered (omega arith)

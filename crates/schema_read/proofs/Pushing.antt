@@ -11,7 +11,8 @@ use Rattle.snap_core.specs.Unview.{snap_of}
 use Rattle.snap_core.proofs.Views.{entry-fields}
 use Rattle.type_core.specs.declared.shape.Shape.{Shape}
 use Rattle.type_core.specs.declared.shape.Shape.TheVariants as shape
-use Rattle.schema_form.specs.Forms.{form_of, optional, refinement}
+use Rattle.schema_form.specs.declared.words.Form.TheVariants.{Optional, Refinement}
+use Rattle.schema_form.specs.Forms.{form_of}
 use Rattle.schema_read.specs.Seen.{formed}
 use Rattle.schema_read.specs.Types.{Numbers, Shapes, type_no, conditions_of, shapes_of, in_turn, numbers_in_turn}
 
@@ -46,28 +47,28 @@ object_one numbers (g ∷ []) n f one is =
 object_one numbers (g ∷ h ∷ fs) n f one is = absurd (omega (arith, one))
 
 -- a type and its default are two
-pub defaulted_none : (numbers : Numbers) (items : List Snap) (n : ℕ) → length items ≢ 2 → formed numbers [] optional (list tt (items_view items)) n ≡ []
+pub defaulted_none : (numbers : Numbers) (items : List Snap) (n : ℕ) → length items ≢ 2 → formed numbers [] Optional (list tt (items_view items)) n ≡ []
 defaulted_none numbers [] n other = refl
 defaulted_none numbers (x ∷ []) n other = refl
 defaulted_none numbers (x ∷ y ∷ []) n other = absurd (other refl)
 defaulted_none numbers (x ∷ y ∷ z ∷ items) n other = refl
 
 pub defaulted_two : (numbers : Numbers) (items : List Snap) (n : ℕ) (x y : Snap) → length items ≡ 2 → x ≡ get_or items 0 x → y ≡ get_or items 1 y
-    → formed numbers [] optional (list tt (items_view items)) n ≡ shape.Optional (type_no (n + 1)) (snap_of (view y)) ∷ shapes_of numbers (view x) (n + 1)
+    → formed numbers [] Optional (list tt (items_view items)) n ≡ shape.Optional (type_no (n + 1)) (snap_of (view y)) ∷ shapes_of numbers (view x) (n + 1)
 defaulted_two numbers [] n x y two first second = absurd (omega (arith, two))
 defaulted_two numbers (t ∷ []) n x y two first second = absurd (omega (arith, two))
 defaulted_two numbers (t ∷ d ∷ []) n x y two first second = rw (first, second) refl
 defaulted_two numbers (t ∷ d ∷ z ∷ items) n x y two first second = absurd (omega (arith, two))
 
 -- and so are a type and its conditions
-pub refined_none : (numbers : Numbers) (items : List Snap) (n : ℕ) → length items ≢ 2 → formed numbers [] refinement (list tt (items_view items)) n ≡ []
+pub refined_none : (numbers : Numbers) (items : List Snap) (n : ℕ) → length items ≢ 2 → formed numbers [] Refinement (list tt (items_view items)) n ≡ []
 refined_none numbers [] n other = refl
 refined_none numbers (x ∷ []) n other = refl
 refined_none numbers (x ∷ y ∷ []) n other = absurd (other refl)
 refined_none numbers (x ∷ y ∷ z ∷ items) n other = refl
 
 pub refined_two : (numbers : Numbers) (items : List Snap) (n : ℕ) (x y : Snap) → length items ≡ 2 → x ≡ get_or items 0 x → y ≡ get_or items 1 y
-    → formed numbers [] refinement (list tt (items_view items)) n ≡ shape.Refinement (type_no (n + 1)) (conditions_of (view y)) ∷ shapes_of numbers (view x) (n + 1)
+    → formed numbers [] Refinement (list tt (items_view items)) n ≡ shape.Refinement (type_no (n + 1)) (conditions_of (view y)) ∷ shapes_of numbers (view x) (n + 1)
 refined_two numbers [] n x y two first second = absurd (omega (arith, two))
 refined_two numbers (t ∷ []) n x y two first second = absurd (omega (arith, two))
 refined_two numbers (t ∷ d ∷ []) n x y two first second = rw (first, second) refl

@@ -13,6 +13,7 @@ use Rattle.schema_read.specs.declared.places.Place.TheVariants.{Found, Past}
 use Rattle.schema_read.specs.Place.{IsPlaceAmong}
 use Rattle.schema_read.specs.Places.{below, numbered, type_places, item_places, part_places, form_places}
 use Rattle.schema_read.proofs.Lone.{alone}
+use Rattle.schema_read.proofs.PlaceCounts.{length-below}
 
 get-append_left : (paths rest : List Path) (t : ℕ) (path : Path) → slice_get paths t ≡ Some path → slice_get (paths ++ rest) t ≡ Some path
 get-append_left [] rest t path is = absurd cc
@@ -32,10 +33,6 @@ found_here token paths rest now t path longer opens is lower =
     ap (λ ps. slice_get ps t) opens
     ∙ get-append_left (below token paths) rest t (token ∷ path) (slice_get-map (λ p. token ∷ p) paths t ∙ ap (option_map (λ p. token ∷ p)) is)
     ∙ ap Some (sym lower)
-
-pub length-below : (token : List ℕ) (paths : List Path) → length (below token paths) ≡ length paths
-length-below token [] = refl
-length-below token (p ∷ paths) = ap suc (length-below token paths)
 
 later : (paths rest : List Path) (t left : ℕ) → t ≡ length paths + left → (place : Place) → IsPlaceAmong rest left place → IsPlaceAmong (paths ++ rest) t place
 later paths rest t left passes (Found path) is = ap (slice_get (paths ++ rest)) passes ∙ get-append_right paths rest left ∙ is

@@ -11,7 +11,9 @@ use Rattle.type_core.specs.declared.shape.Shape.TheVariants as shape
 use Rattle.type_core.specs.declared.shape.ModelType.{ModelType}
 use Rattle.type_core.specs.Table.{NamesModel, NamesTypes, HoldsPlain, leads_of, parts_of}
 use Rattle.schema_form.specs.declared.fault.Fault.{Fault}
-use Rattle.schema_form.specs.Forms.{Form, literal, enumeration, optional, union, refinement, around, form_of, is_word, plain_words, has_key}
+use Rattle.schema_form.specs.declared.words.Form.{Form}
+use Rattle.schema_form.specs.declared.words.Form.TheVariants.{Literal, Enumeration, Optional, Union, Refinement, Around}
+use Rattle.schema_form.specs.Forms.{form_of, is_word, plain_words, has_key}
 use Rattle.schema_form.specs.Faults.{type_faults}
 use Rattle.schema_read.specs.Types.{Numbers, Shapes, type_no, word_shape, around_shape, texts_of, conditions_of, in_turn, numbers_in_turn, form_shapes, shapes_of, item_shapes, part_shapes}
 use Rattle.schema_read.proofs.Expressions.{Each, IsKnown, Steps, of_type}
@@ -140,13 +142,13 @@ module _ (count : ℕ) (models : List ModelType) where
     steps : Steps types IsFit
     steps = record {
       of_word = λ s is ordered. word_fit s is;
-      of_around = λ a k v e one ordered. by_form a k v around e (before (λ n. around_shape k (type_no n)) (shapes_of numbers v) (around_within k) (one ordered.0));
-      of_literal = λ a k v e none ordered. by_form a k v literal e (alone (shape.Literal (snap_of v)) (plain_shape count models (shape.Literal (snap_of v)) tt refl refl (IsPlain-snap_of v ordered.0 none)));
-      of_enumeration = λ a k v e ordered. by_form a k v enumeration e (alone (shape.Enumeration (texts_of v)) (plain_shape count models (shape.Enumeration (texts_of v)) tt refl refl tt));
-      of_optional = λ a b k t d e one none ordered. by_form a k (list b (part t (part d no_parts))) optional e (before (λ n. shape.Optional (type_no n) (snap_of d)) (shapes_of numbers t)
+      of_around = λ a k v e one ordered. by_form a k v Around e (before (λ n. around_shape k (type_no n)) (shapes_of numbers v) (around_within k) (one ordered.0));
+      of_literal = λ a k v e none ordered. by_form a k v Literal e (alone (shape.Literal (snap_of v)) (plain_shape count models (shape.Literal (snap_of v)) tt refl refl (IsPlain-snap_of v ordered.0 none)));
+      of_enumeration = λ a k v e ordered. by_form a k v Enumeration e (alone (shape.Enumeration (texts_of v)) (plain_shape count models (shape.Enumeration (texts_of v)) tt refl refl tt));
+      of_optional = λ a b k t d e one none ordered. by_form a k (list b (part t (part d no_parts))) Optional e (before (λ n. shape.Optional (type_no n) (snap_of d)) (shapes_of numbers t)
           (λ n below. leading count models (shape.Optional (type_no n) (snap_of d)) tt (one_type count n below) refl (IsPlain-snap_of d ordered.0.1.0 none)) (one ordered.0.0));
-      of_union = λ a b k ps e each ordered. by_form a k (list b ps) union e (before_all (part_shapes numbers ps) (parts_fit ps each ordered.0));
-      of_refinement = λ a b k s cs e is ordered. by_form a k (list b (part (text s) (part cs no_parts))) refinement e (before (λ n. shape.Refinement (type_no n) (conditions_of cs)) (shapes_of numbers (text s))
+      of_union = λ a b k ps e each ordered. by_form a k (list b ps) Union e (before_all (part_shapes numbers ps) (parts_fit ps each ordered.0));
+      of_refinement = λ a b k s cs e is ordered. by_form a k (list b (part (text s) (part cs no_parts))) Refinement e (before (λ n. shape.Refinement (type_no n) (conditions_of cs)) (shapes_of numbers (text s))
           (λ n below. leading count models (shape.Refinement (type_no n) (conditions_of cs)) tt (one_type count n below) refl tt) (word_fit s is));
     }
 

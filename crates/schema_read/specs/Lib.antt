@@ -1,6 +1,7 @@
 pub mod Types
 pub mod Places
 pub mod Schema
+pub mod Laws
 pub mod Refusal
 pub mod Seen
 pub mod Named

@@ -2,7 +2,9 @@
 use Rattle.std.specs.Prelude.{ℕ, ◌+◌, List, [], ◌∷◌, ◌++◌, map, codes, decimal, Option, Some, None}
 use Rattle.snap_core.specs.Value.{Value, text, list, dict, Parts, no_parts, part, Members, no_members, member}
 use Rattle.pointer_core.specs.Path.{Path}
-use Rattle.schema_form.specs.Forms.{Form, optional, union, refinement, around, form_of}
+use Rattle.schema_form.specs.declared.words.Form.{Form}
+use Rattle.schema_form.specs.declared.words.Form.TheVariants.{Optional, Union, Refinement, Around}
+use Rattle.schema_form.specs.Forms.{form_of}
 use Rattle.schema_read.specs.Types.{model_in}
 
 -- the same places, one step further down
@@ -16,10 +18,10 @@ numbered i (p ∷ ps) = below (decimal i) p ++ numbered (i + 1) ps
 
 -- the places in the value of an object with one key, by its form
 abbrev pub form_places : Form → List Path → List (List Path) → List Path
-form_places around inner items = inner
-form_places optional inner (first ∷ rest) = below (codes "0") first
-form_places refinement inner (first ∷ rest) = below (codes "0") first
-form_places union inner items = numbered 0 items
+form_places Around inner items = inner
+form_places Optional inner (first ∷ rest) = below (codes "0") first
+form_places Refinement inner (first ∷ rest) = below (codes "0") first
+form_places Union inner items = numbered 0 items
 form_places form inner items = []
 
 abbrev mutual

@@ -1,27 +1,18 @@
 -- Schema files: which schema a file is, and which fault of it comes first.
 use Rattle.std.specs.Prelude.{◌≡◌, ℕ, ℤ, pos, List, [], ◌∷◌, codes, slice_get, Option, Some, None, IsSomeAnd}
-use Rattle.snap_core.specs.Value.{Value, integer, text, dict, Members, no_members, value_at}
+use Rattle.snap_core.specs.Value.{Value, integer, text, Members, value_at}
 use Rattle.snap_core.specs.declared.number.ModelNo.{ModelNo}
 use Rattle.pointer_core.specs.Path.{Path}
 use Rattle.pointer_core.specs.declared.schema_rule.SchemaRule.{SchemaRule}
 use Rattle.pointer_core.specs.declared.schema_rule.SchemaRule.TheVariants as rule
 use Rattle.snap_json.specs.Loose.{loosely}
 use Rattle.schema_form.specs.declared.fault.Fault.{Fault}
-use Rattle.schema_form.specs.Faults.{file_faults, types_in}
+use Rattle.schema_form.specs.Faults.{file_faults, entries, types_of}
 use Rattle.type_core.specs.Sound.{HasDefaults}
 use Rattle.expr_core.specs.Schema.{Schema}
 use Rattle.type_core.specs.Faults.{HasFault, IsFirstFault}
 use Rattle.schema_read.specs.Types.{table_of, model_within}
 use Rattle.schema_read.specs.Places.{places_of}
-
--- the entries of an object
-abbrev pub entries : Value → Members (Unit {0})
-entries (dict a ms) = ms
-entries _ = no_members
-
--- the types of a file
-abbrev pub types_of : Value → Members (Unit {0})
-types_of file = types_in (value_at (codes "types") (entries file))
 
 -- the model that the root names
 abbrev pub root_in : Members (Unit {0}) → Option Value → Option ModelNo

@@ -1,5 +1,6 @@
 -- Which types a schema file stands for: one for each type expression, numbered in document order, and then one for each model.
 use Rattle.std.specs.Prelude.{ℕ, ◌+◌, List, [], ◌∷◌, ◌++◌, length, codes, Option, Some, None, if◌then◌else◌}
+use Rattle.std.specs.Option.{option_map}
 use Rattle.std.specs.Str.{bytes_eq}
 use Rattle.snap_core.specs.Value.{Value, integer, text, list, dict, Parts, no_parts, part, Members, no_members, member}
 use Rattle.snap_core.specs.Unview.{snap_of}
@@ -12,7 +13,10 @@ use Rattle.type_core.specs.declared.shape.Condition.TheVariants.{Min, Max, MinLe
 use Rattle.type_core.specs.declared.shape.Property.{Property}
 use Rattle.type_core.specs.declared.shape.ModelType.{ModelType}
 use Rattle.type_core.specs.Table.{Table}
-use Rattle.schema_form.specs.Forms.{Form, literal, enumeration, optional, union, refinement, around, form_of}
+use Rattle.schema_form.specs.declared.words.Form.{Form}
+use Rattle.schema_form.specs.declared.words.Form.TheVariants.{Literal, Enumeration, Optional, Union, Refinement, Around}
+use Rattle.schema_form.specs.Forms.{form_of}
+use Rattle.schema_form.specs.Forms as forms
 
 -- the number of the type that a name stands for
 abbrev pub Numbers : Type 0
@@ -82,16 +86,16 @@ numbers_in_turn (s ∷ ss) n = type_no n ∷ numbers_in_turn ss (n + length (s n
 
 -- an object with one key: its own shape, and then those of its parts, with the shapes of its value and of its value's items given
 abbrev pub form_shapes : List ℕ → Form → Value → Shapes → List Shapes → Shapes
-form_shapes key around v inner items n = around_shape key (type_no (n + 1)) ∷ inner (n + 1)
-form_shapes key literal v inner items n = shape.Literal (snap_of v) ∷ []
-form_shapes key enumeration v inner items n = shape.Enumeration (texts_of v) ∷ []
-form_shapes key optional (list a (part t (part d no_parts))) inner (first ∷ rest) n = shape.Optional (type_no (n + 1)) (snap_of d) ∷ first (n + 1)
-form_shapes key refinement (list a (part t (part cs no_parts))) inner (first ∷ rest) n = shape.Refinement (type_no (n + 1)) (conditions_of cs) ∷ first (n + 1)
-form_shapes key union v inner items n = shape.Union (numbers_in_turn items (n + 1)) ∷ in_turn items (n + 1)
+form_shapes key Around v inner items n = around_shape key (type_no (n + 1)) ∷ inner (n + 1)
+form_shapes key Literal v inner items n = shape.Literal (snap_of v) ∷ []
+form_shapes key Enumeration v inner items n = shape.Enumeration (texts_of v) ∷ []
+form_shapes key Optional (list a (part t (part d no_parts))) inner (first ∷ rest) n = shape.Optional (type_no (n + 1)) (snap_of d) ∷ first (n + 1)
+form_shapes key Refinement (list a (part t (part cs no_parts))) inner (first ∷ rest) n = shape.Refinement (type_no (n + 1)) (conditions_of cs) ∷ first (n + 1)
+form_shapes key Union v inner items n = shape.Union (numbers_in_turn items (n + 1)) ∷ in_turn items (n + 1)
 form_shapes key form v inner items n = []
 
 abbrev mutual
-  -- the shapes of a type expression and of those in it, in document order; none where it isn't one
+  -- the shapes of a type expression and of those in it, in document order; where it hasn't the form of one, they don't matter
   pub shapes_of : Numbers → Value → Shapes
   shapes_of numbers (text s) n = word_shape numbers s ∷ []
   shapes_of numbers (dict a (member k v no_members)) n = form_shapes k (form_of k) v (shapes_of numbers v) (item_shapes numbers v) n
@@ -117,8 +121,7 @@ properties_in _ = no_members
 
 -- the properties of an entry that is a model
 abbrev pub model_in : Value → Option (Members (Unit {0}))
-model_in (dict a (member k v no_members)) = if bytes_eq k (codes "model") then Some (properties_in v) else None
-model_in _ = None
+model_in v = option_map properties_in (forms.model_in v)
 
 -- the shapes of an entry of the types, the next model having this number
 abbrev pub entry_shapes : Numbers → ℕ → Value → Shapes
@@ -126,6 +129,10 @@ entry_shapes numbers m v n = by_model (model_in v) where
   by_model : Option (Members (Unit {0})) → List Shape
   by_model (Some ps) = shape.Model (record { 0 = m }) ∷ in_turn (value_shapes numbers ps) (n + 1)
   by_model None = shapes_of numbers v n
+
+-- how many types an entry stands for, which depends on no number
+abbrev pub count_of : Value → ℕ
+count_of v = length (entry_shapes (λ name. 0) 0 v 0)
 
 -- the number of the model after an entry
 abbrev pub next_model : ℕ → Value → ℕ
@@ -143,7 +150,7 @@ entries_shapes numbers (member k v ms) m n =
 -- the number of the type that a name stands for: how many type expressions stand before its own
 abbrev pub number_within : Members (Unit {0}) → ℕ → Numbers
 number_within no_members n name = n
-number_within (member k v ms) n name = if bytes_eq name k then n else number_within ms (n + length (entry_shapes (λ s. 0) 0 v n)) name
+number_within (member k v ms) n name = if bytes_eq name k then n else number_within ms (n + count_of v) name
 
 abbrev pub numbers_of : Members (Unit {0}) → Numbers
 numbers_of types name = number_within types 0 name

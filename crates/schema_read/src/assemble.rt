@@ -1,5 +1,5 @@
 //! The types of a schema, put together from the shapes of its type expressions and from its models.
-ghost use Rattle.std.specs.Prelude.{◌≡◌, ◌<◌, [], ◌++◌, ℕ, length, map, take, drop, replicate, reverse, Some, None, All, IfOk, OnOk};
+ghost use Rattle.std.specs.Prelude.{◌≡◌, ◌<◌, [], ◌++◌, ℕ, length, map, take, drop, replicate, Some, None, All, IfOk, OnOk};
 ghost use Rattle.pointer_core.specs.declared.schema_rule.SchemaRule.{SchemaRule as Rule};
 ghost use Rattle.type_core.specs.Table.{IsShapeOf, plan_of};
 ghost use Rattle.type_core.specs.Faults.{HasFault, IsFirstFault, IfWrong};
@@ -19,7 +19,8 @@ pub fn assembled(alloc: Global, entries: Entries, root: ModelNo) -> Result<Types
     ensures table { IfOk result (λ types. types.table ≡ put_together entries.shapes entries.models) }
     ensures root { IfOk result (λ types. types.root ≡ root) }
     ensures faultless { IfOk result (λ types. (t : ℕ) (rule : Rule) → ¬ (HasFault types.table t rule)) }
-    ensures wrong { IfWrong result (λ t rule. IsFirstFault (put_together entries.shapes entries.models) t.0 rule) }
+    ensures wrong { IfWrong result
+        (λ t rule. IsFirstFault (put_together entries.shapes entries.models) t.0 rule) }
 {
     let draft = filled(alloc, entries)?;
     draft.finish(root)
@@ -32,8 +33,7 @@ fn filled(alloc: Global, entries: Entries) -> Result<Draft, AllocError>
 {
     let Entries { shapes, models } = entries;
     let mut draft = begun(alloc, shapes.len())?;
-    let models = last_first(alloc, models)?;
-    add_models(&mut draft, models)?;
+    add_models(&mut draft, models.into_vec())?;
     define_all(&mut draft, shapes);
     Ok(draft)
 }
@@ -49,25 +49,15 @@ fn begun(alloc: Global, count: usize) -> Result<Draft, AllocError>
     Ok(draft)
 }
 
-/// The models, last one first.
-fn last_first(alloc: Global, mut models: Parts<ModelType>) -> Result<Vec<ModelType>, AllocError>
-    ensures { IfOk result (λ turned. turned.items ≡ reverse models) }
-{
-    let mut turned = Vec::new(alloc);
-    while let Some(model) = models.pop() {
-        turned.push(model)?;
-    }
-    Ok(turned)
-}
-
-/// Adds models, which are given last one first.
-fn add_models(draft: &mut Draft, mut models: Vec<ModelType>) -> Result<(), AllocError>
-    requires { AreModels (length draft.old.shapes) (length draft.old.shapes) (reverse models.items) }
+/// Adds models.
+fn add_models(draft: &mut Draft, models: Vec<ModelType>) -> Result<(), AllocError>
+    requires { AreModels (length draft.old.shapes) (length draft.old.shapes) models.items }
     ensures shapes { OnOk result
-        (draft.new.shapes ≡ draft.old.shapes ++ map Some (own_shapes (length draft.old.models) (reverse models.items))) }
-    ensures models { OnOk result (draft.new.models ≡ draft.old.models ++ reverse models.items) }
+        (draft.new.shapes
+        ≡ draft.old.shapes ++ map Some (own_shapes (length draft.old.models) models.items)) }
+    ensures models { OnOk result (draft.new.models ≡ draft.old.models ++ models.items) }
 {
-    while let Some(model) = models.pop() {
+    for model in models {
         let ModelType {
             name,
             properties,
@@ -82,7 +72,8 @@ fn add_models(draft: &mut Draft, mut models: Vec<ModelType>) -> Result<(), Alloc
 fn define_all(draft: &mut Draft, mut shapes: Parts<Shape>)
     requires undefined { take (length shapes) draft.old.shapes ≡ replicate (length shapes) None }
     requires names { All (IsShapeOf draft.old) shapes }
-    ensures { draft.new ≡ record draft.old { shapes = map Some shapes ++ drop (length shapes) draft.old.shapes } }
+    ensures { draft.new
+        ≡ record draft.old { shapes = map Some shapes ++ drop (length shapes) draft.old.shapes } }
 {
     while let Some(shape) = shapes.pop() {
         draft.define(TypeNo(shapes.len()), shape);

@@ -7,7 +7,7 @@ ghost use Rattle.schema_read.specs.Seen.{number_in};
 ghost use Rattle.schema_read.specs.Types as types;
 ghost use Rattle.schema_read.specs.Types.{type_no, in_turn, value_shapes, properties_of, entry_shapes, model_before, numbers_of, expression_shapes, models_in};
 
-use crate::models::model_in;
+use crate::models::model_of;
 use crate::names::{Names, add_name};
 use crate::shapes::push_type;
 use list_core::Parts;
@@ -33,7 +33,8 @@ fn push_properties(
 ) -> Result<Properties, AllocError>
     requires { AreNames (fields_view fields.now) }
     ensures shapes { OnOk result
-        (shapes.new ≡ shapes.old ++ in_turn (value_shapes (number_in names.now) (fields_view fields.now)) (length shapes.old)) }
+        (shapes.new ≡ shapes.old
+        ++ in_turn (value_shapes (number_in names.now) (fields_view fields.now)) (length shapes.old)) }
     ensures properties { IfOk result
         (λ ps. ps ≡ properties_of (number_in names.now) (fields_view fields.now) (length shapes.old)) }
 {
@@ -68,8 +69,14 @@ fn push_model(
 ) -> Result<(), AllocError>
     requires name { IsTrue (is_name name.now) }
     requires properties { AreNames (fields_view fields.now) }
-    ensures shapes { OnOk result (shapes.new ≡ shapes.old ++ Shape.Model (record { 0 = length models.old }) ∷ in_turn (value_shapes (number_in names.now) (fields_view fields.now)) (length shapes.old + 1)) }
-    ensures models { OnOk result (models.new ≡ models.old ++ record { name = name.now; properties = properties_of (number_in names.now) (fields_view fields.now) (length shapes.old + 1); own = type_no (names.now.count + length models.old) } ∷ []) }
+    ensures shapes { OnOk result
+        (shapes.new ≡ shapes.old ++ Shape.Model (record { 0 = length models.old })
+        ∷ in_turn (value_shapes (number_in names.now) (fields_view fields.now)) (length shapes.old + 1)) }
+    ensures models { OnOk result (models.new ≡ models.old ++ record {
+      name = name.now;
+      properties = properties_of (number_in names.now) (fields_view fields.now) (length shapes.old + 1);
+      own = type_no (names.now.count + length models.old);
+    } ∷ []) }
 {
     let number = models.len();
     let own = own_type(names, number)?;
@@ -95,11 +102,13 @@ fn push_entry(
     requires name { IsTrue (is_name name.now) }
     requires properties { HasNames (types.model_in (view value.now)) }
     ensures shapes { OnOk result
-        (shapes.new ≡ shapes.old ++ entry_shapes (number_in names.now) (length models.old) (view value.now) (length shapes.old)) }
+        (shapes.new ≡ shapes.old
+        ++ entry_shapes (number_in names.now) (length models.old) (view value.now) (length shapes.old)) }
     ensures models { OnOk result
-        (models.new ≡ models.old ++ model_before name.now (number_in names.now) (length shapes.old) (names.now.count + length models.old) (types.model_in (view value.now)) []) }
+        (models.new ≡ models.old ++ model_before name.now (number_in names.now) (length shapes.old)
+        (names.now.count + length models.old) (types.model_in (view value.now)) []) }
 {
-    match model_in(value) {
+    match model_of(value) {
         Some(fields) => push_model(alloc, names, name, fields, shapes, models),
         None => push_type(alloc, names, value, shapes),
     }
@@ -130,7 +139,7 @@ fn names_of(alloc: Global, entries: &[Field]) -> Result<Names, AllocError>
 
 /// The types that the entries of a schema file stand for: the shapes of all type expressions, by
 /// their numbers, and the models, whose own types have the numbers after these.
-#[derive(Debug, Drop)]
+#[derive(Drop)]
 pub struct Entries {
     pub shapes: Parts<Shape>,
     pub models: Parts<ModelType>,

@@ -6,7 +6,7 @@ use std::alloc::AllocError;
 pub enum SchemaError {
     #[error("out of memory")]
     Memory,
-    /// The file is no JSON in UTF-8.
+    /// The file is no JSON in UTF-8, or it nests deeper than 127 or has a number past what a double holds.
     #[error("no JSON")]
     Syntax,
     /// The first fault, and where it is.

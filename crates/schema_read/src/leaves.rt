@@ -24,17 +24,17 @@ fn texts_in(alloc: Global, items: &[Snap]) -> Result<Texts, AllocError>
 {
     let mut texts = Parts::new(alloc);
     for item in items {
-        push_text(alloc, item, &mut texts)?;
+        push_text(item, &mut texts)?;
     }
     Ok(texts)
 }
 
-fn push_text(alloc: Global, item: &Snap, texts: &mut Texts) -> Result<(), AllocError>
+fn push_text(item: &Snap, texts: &mut Texts) -> Result<(), AllocError>
     ensures { OnOk result
         (texts.new ≡ texts.old ++ types.texts_of (list tt (part (view item.now) no_parts))) }
 {
     match item {
-        Snap::Text(text) => texts.push(text.clone_in(alloc)?),
+        Snap::Text(text) => texts.push(text.clone_in()?),
         _ => Ok(()),
     }
 }
@@ -50,26 +50,22 @@ pub fn conditions_of(alloc: Global, value: &Snap) -> Result<Conditions, AllocErr
 }
 
 fn conditions_in(alloc: Global, fields: &[Field]) -> Result<Conditions, AllocError>
-    ensures { IfOk result (λ conditions. conditions ≡ types.conditions_of (dict tt (fields_view fields.now))) }
+    ensures { IfOk result
+        (λ conditions. conditions ≡ types.conditions_of (dict tt (fields_view fields.now))) }
 {
     let mut conditions = Parts::new(alloc);
     for field in fields {
-        push_condition(alloc, field.key.text(), &field.value, &mut conditions)?;
+        push_condition(field.key.text(), &field.value, &mut conditions)?;
     }
     Ok(conditions)
 }
 
-fn push_condition(
-    alloc: Global,
-    key: &str,
-    value: &Snap,
-    conditions: &mut Conditions,
-) -> Result<(), AllocError>
+fn push_condition(key: &str, value: &Snap, conditions: &mut Conditions) -> Result<(), AllocError>
     ensures { OnOk result (conditions.new ≡ conditions.old ++ types.condition_of key.now (view value.now)) }
 {
     match value {
         Snap::Int(n) => push_bound(key, *n, conditions),
-        Snap::Text(text) => push_beginning(alloc, key, text, conditions),
+        Snap::Text(text) => push_beginning(key, text, conditions),
         _ => Ok(()),
     }
 }
@@ -86,16 +82,12 @@ fn push_bound(key: &str, n: i64, conditions: &mut Conditions) -> Result<(), Allo
     }
 }
 
-fn push_beginning(
-    alloc: Global,
-    key: &str,
-    beginning: &Txt,
-    conditions: &mut Conditions,
-) -> Result<(), AllocError>
-    ensures { OnOk result (conditions.new ≡ conditions.old ++ types.condition_of key.now (text beginning.now)) }
+fn push_beginning(key: &str, beginning: &Txt, conditions: &mut Conditions) -> Result<(), AllocError>
+    ensures { OnOk result
+        (conditions.new ≡ conditions.old ++ types.condition_of key.now (text beginning.now)) }
 {
     if key == "startsWith" {
-        conditions.push(Condition::StartsWith(beginning.clone_in(alloc)?))?;
+        conditions.push(Condition::StartsWith(beginning.clone_in()?))?;
     }
     Ok(())
 }

@@ -4,21 +4,16 @@
 mod assemble;
 mod entries;
 mod error;
-mod form;
+mod laws;
 mod leaves;
-#[cfg(test)]
-mod making_tests;
 mod models;
 mod names;
 mod parts;
 mod places;
 mod read;
-#[cfg(test)]
-mod read_tests;
 mod shapes;
-#[cfg(test)]
-mod tests;
 mod words;
 
 pub use error::SchemaError;
+pub use laws::{first_fault_is_one, schema_has_no_fault};
 pub use read::read_schema;

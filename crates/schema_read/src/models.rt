@@ -1,41 +1,21 @@
 //! Entries of the types that are models.
 ghost use Rattle.std.specs.Prelude.{◌≡◌, option_map};
 ghost use Rattle.std.specs.Option.{option_copied};
-ghost use Rattle.snap_core.specs.Value.{dict, member, no_members};
+ghost use Rattle.snap_core.specs.Value.{dict};
 ghost use Rattle.snap_core.specs.View.{view, fields_view};
-ghost use Rattle.schema_read.specs.Schema.{entries};
 ghost use Rattle.schema_read.specs.Types as types;
 
+use schema_form::{entries_of, model_in};
 use snap_core::{Field, ModelNo, Snap};
 
 /// The properties of an entry of the types that is a model.
-pub fn model_in(entry: &Snap) -> Option<&[Field]>
+pub fn model_of(entry: &Snap) -> Option<&[Field]>
     ensures { option_map fields_view (option_copied result) ≡ types.model_in (view entry.now) }
 {
-    match entry {
-        Snap::Dict(fields) => model_of(fields.as_slice()),
-        _ => None,
+    match model_in(entry) {
+        Some(model) => Some(properties_in(model)),
+        None => None,
     }
-}
-
-fn model_of(fields: &[Field]) -> Option<&[Field]>
-    ensures { option_map fields_view (option_copied result) ≡ types.model_in (dict tt (fields_view fields.now)) }
-{
-    if fields.len() != 1 {
-        return None;
-    }
-    let field = &fields[0];
-    model_at(field.key.text(), &field.value)
-}
-
-fn model_at<'a>(key: &str, value: &'a Snap) -> Option<&'a [Field]>
-    ensures { option_map fields_view (option_copied result)
-        ≡ types.model_in (dict tt (member key.now (view value.now) no_members)) }
-{
-    if key == "model" {
-        return Some(properties_in(value));
-    }
-    None
 }
 
 fn properties_in(model: &Snap) -> &[Field]
@@ -57,16 +37,6 @@ fn properties_of(fields: &[Field]) -> &[Field]
     entries_of(&field.value)
 }
 
-/// The entries of an object; none of any other value.
-pub fn entries_of(value: &Snap) -> &[Field]
-    ensures { fields_view result.now ≡ entries (view value.now) }
-{
-    match value {
-        Snap::Dict(fields) => fields.as_slice(),
-        _ => &[],
-    }
-}
-
 /// The number of the model of this name, if the name's entry is a model.
 pub fn find_model(entries: &[Field], name: &str) -> Option<ModelNo>
     ensures { result ≡ types.model_within (fields_view entries.now) 0 name.now }
@@ -76,7 +46,7 @@ pub fn find_model(entries: &[Field], name: &str) -> Option<ModelNo>
         if field.key.text() == name {
             return number_at(&field.value, number);
         }
-        if model_in(&field.value).is_some() {
+        if model_of(&field.value).is_some() {
             number += 1;
         }
     }
@@ -86,7 +56,7 @@ pub fn find_model(entries: &[Field], name: &str) -> Option<ModelNo>
 fn number_at(entry: &Snap, number: usize) -> Option<ModelNo>
     ensures { result ≡ option_map (λ _. record { 0 = number }) (types.model_in (view entry.now)) }
 {
-    match model_in(entry) {
+    match model_of(entry) {
         Some(_) => Some(ModelNo(number)),
         None => None,
     }

@@ -10,7 +10,7 @@ use std::alloc::{AllocError, Global};
 use std::collections::BTreeMap;
 
 /// The numbers of the types that names stand for, and how many types there are.
-#[derive(Debug, Drop)]
+#[derive(Drop)]
 pub struct Names {
     pub numbers: BTreeMap<String, usize>,
     pub count: usize,

@@ -3,16 +3,18 @@ ghost use Rattle.std.specs.Prelude.{◌≡◌, [], codes, option_map, pos, Some}
 ghost use Rattle.std.specs.Option.{option_copied};
 ghost use Rattle.snap_core.specs.Value.{IsOrdered, value_at};
 ghost use Rattle.snap_core.specs.View.{view, fields_view};
-ghost use Rattle.schema_form.specs.Faults.{file_faults, history_faults};
+ghost use Rattle.schema_form.specs.Faults.{entries, file_faults, history_faults};
+ghost use Rattle.schema_form.specs.Faults as form;
 ghost use Rattle.schema_read.specs.Schema as schema;
 
-use crate::models::{entries_of, find_model};
+use crate::models::find_model;
+use schema_form::entries_of;
 use snap_core::{Field, ModelNo, Snap, find};
 
 /// What the file has under a key.
 fn part<'a>(file: &'a Snap, key: &str) -> Option<&'a Snap>
     requires { IsOrdered (view file.now) }
-    ensures { option_map view (option_copied result) ≡ value_at key.now (schema.entries (view file.now)) }
+    ensures { option_map view (option_copied result) ≡ value_at key.now (entries (view file.now)) }
 {
     find(entries_of(file), key)
 }
@@ -20,7 +22,7 @@ fn part<'a>(file: &'a Snap, key: &str) -> Option<&'a Snap>
 /// The entries of the types.
 pub fn types_of(file: &Snap) -> &[Field]
     requires { IsOrdered (view file.now) }
-    ensures { fields_view result.now ≡ schema.types_of (view file.now) }
+    ensures { fields_view result.now ≡ form.types_of (view file.now) }
 {
     match part(file, "types") {
         Some(types) => entries_of(types),

@@ -21,15 +21,19 @@ use snap_json::read_loosely;
 use std::alloc::{AllocError, Global};
 use type_core::DraftError;
 
-/// Reads a schema file, or names its first fault.
+/// Reads a schema file, or names its first fault. A file that is no JSON in UTF-8, as `snap_json` reads
+/// it, is `Syntax`.
 ///
-/// Faults are looked for in three passes over the file, each in document order: first in form, names
-/// and repetitions; then a root that is no model, types that lead back to themselves and unions whose
-/// members aren't told apart; then defaults.
+/// Faults are looked for in three passes over the file, each in document order, which takes the keys of
+/// an object in ascending order: first in form, names, repetitions and the range of the history; then
+/// a root that is no model, types that lead back to themselves and unions whose members aren't told
+/// apart; then defaults. `schema_has_no_fault` and `first_fault_is_one` say that no two of these
+/// answers are right.
 pub fn read_schema(alloc: Global, bytes: &[u8]) -> Result<Schema, SchemaError>
     ensures ok { IfOk result (Spells bytes.now) }
     ensures syntax { IfSyntax result (loosely bytes.now ≡ None) }
-    ensures refused { IfRefused result (λ path rule. HasFirst bytes.now (record { path = path; rule = rule })) }
+    ensures refused { IfRefused result
+        (λ path rule. HasFirst bytes.now (record { path = path; rule = rule })) }
 {
     match read_loosely(alloc, bytes)? {
         Some(file) => schema_of(alloc, &file),
@@ -42,7 +46,8 @@ fn schema_of(alloc: Global, file: &Snap) -> Result<Schema, SchemaError>
     requires { IsOrdered (view file.now) }
     ensures ok { IfOk result (IsSchema (view file.now)) }
     ensures syntax { IfSyntax result ⊥ }
-    ensures refused { IfRefused result (λ path rule. IsFirst (view file.now) (record { path = path; rule = rule })) }
+    ensures refused { IfRefused result
+        (λ path rule. IsFirst (view file.now) (record { path = path; rule = rule })) }
 {
     match first_fault(alloc, file)? {
         Some(fault) => Err(SchemaError::Refused {
@@ -59,7 +64,8 @@ fn formed(alloc: Global, file: &Snap) -> Result<Schema, SchemaError>
     requires formed { file_faults (view file.now) ≡ [] }
     ensures ok { IfOk result (IsSchema (view file.now)) }
     ensures syntax { IfSyntax result ⊥ }
-    ensures refused { IfRefused result (λ path rule. IsFirst (view file.now) (record { path = path; rule = rule })) }
+    ensures refused { IfRefused result
+        (λ path rule. IsFirst (view file.now) (record { path = path; rule = rule })) }
 {
     match root_of(file) {
         Some(root) => rooted(alloc, file, root),
@@ -85,7 +91,8 @@ fn rooted(alloc: Global, file: &Snap, root: ModelNo) -> Result<Schema, SchemaErr
     requires root { schema.root_of (view file.now) ≡ Some root }
     ensures ok { IfOk result (IsSchema (view file.now)) }
     ensures syntax { IfSyntax result ⊥ }
-    ensures refused { IfRefused result (λ path rule. IsFirst (view file.now) (record { path = path; rule = rule })) }
+    ensures refused { IfRefused result
+        (λ path rule. IsFirst (view file.now) (record { path = path; rule = rule })) }
 {
     let entries = types_of(file);
     let read = read_entries(alloc, entries)?;

@@ -1,7 +1,7 @@
 //! The shapes of type expressions, each before those in it.
 ghost use Rattle.std.specs.Prelude.{◌≡◌, ◌+◌, [], ◌∷◌, ◌++◌, length, IfOk, OnOk};
 ghost use Rattle.schema_form.specs.Forms as forms;
-ghost use Rattle.schema_form.specs.Forms.{literal, enumeration, optional, union, refinement, around};
+ghost use Rattle.schema_form.specs.declared.words.Form.TheVariants as form;
 ghost use Rattle.snap_core.specs.Value.{text, list, dict};
 ghost use Rattle.snap_core.specs.Unview.{snap_of};
 ghost use Rattle.snap_core.specs.View.{view, items_view, fields_view};
@@ -9,11 +9,11 @@ ghost use Rattle.schema_read.specs.Seen.{number_in, formed};
 ghost use Rattle.schema_read.specs.Types.{shapes_of, item_shapes, part_shapes, in_turn, numbers_in_turn};
 ghost use Rattle.schema_read.specs.Types as types;
 
-use crate::form::{Form, form_of};
 use crate::leaves::{conditions_of, texts_of};
 use crate::names::Names;
 use crate::words::{around_shape, word_shape};
 use list_core::Parts;
+use schema_form::{Form, form_of};
 use snap_core::{Field, Snap, Txt, TypeNo};
 use std::alloc::{AllocError, Global};
 use type_core::{Members, Shape};
@@ -37,7 +37,8 @@ pub fn push_type(
     shapes: &mut Parts<Shape>,
 ) -> Result<(), AllocError>
     ensures { OnOk result
-        (shapes.new ≡ shapes.old ++ shapes_of (number_in names.now) (view value.now) (length shapes.old)) }
+        (shapes.new ≡ shapes.old
+        ++ shapes_of (number_in names.now) (view value.now) (length shapes.old)) }
 {
     match value {
         Snap::Text(word) => push_word(names, word, shapes),
@@ -48,7 +49,8 @@ pub fn push_type(
 
 fn push_word(names: &Names, word: &Txt, shapes: &mut Parts<Shape>) -> Result<(), AllocError>
     ensures { OnOk result
-        (shapes.new ≡ shapes.old ++ shapes_of (number_in names.now) (text word.now) (length shapes.old)) }
+        (shapes.new ≡ shapes.old
+        ++ shapes_of (number_in names.now) (text word.now) (length shapes.old)) }
 {
     shapes.push(word_shape(names, word.text()))
 }
@@ -61,7 +63,8 @@ fn push_object(
     shapes: &mut Parts<Shape>,
 ) -> Result<(), AllocError>
     ensures { OnOk result
-        (shapes.new ≡ shapes.old ++ shapes_of (number_in names.now) (dict tt (fields_view fields.now)) (length shapes.old)) }
+        (shapes.new ≡ shapes.old
+        ++ shapes_of (number_in names.now) (dict tt (fields_view fields.now)) (length shapes.old)) }
 {
     if fields.len() != 1 {
         return Ok(());
@@ -80,16 +83,21 @@ fn push_form(
     shapes: &mut Parts<Shape>,
 ) -> Result<(), AllocError>
     ensures { OnOk result
-        (shapes.new ≡ shapes.old ++ formed (number_in names.now) key.now (forms.form_of key.now) (view value.now) (length shapes.old)) }
+        (shapes.new ≡ shapes.old
+        ++ formed (number_in names.now) key.now (forms.form_of key.now) (view value.now) (length shapes.old)) }
 {
-    match form_of(key) {
-        Form::Around => push_around(alloc, names, key, value, shapes),
-        Form::Literal => push_literal(alloc, value, shapes),
-        Form::Enumeration => push_enumeration(alloc, value, shapes),
-        Form::Optional => push_optional(alloc, names, value, shapes),
-        Form::Union => push_union(alloc, names, value, shapes),
-        Form::Refinement => push_refinement(alloc, names, value, shapes),
-        Form::Unknown => Ok(()),
+    match (form_of(key), value) {
+        (Form::Around, _) => push_around(alloc, names, key, value, shapes),
+        (Form::Literal, _) => push_literal(alloc, value, shapes),
+        (Form::Enumeration, _) => push_enumeration(alloc, value, shapes),
+        (Form::Union, _) => push_union(alloc, names, value, shapes),
+        (Form::Optional, Snap::List(items)) => {
+            push_defaulted(alloc, names, items.as_slice(), shapes)
+        }
+        (Form::Refinement, Snap::List(items)) => {
+            push_refined(alloc, names, items.as_slice(), shapes)
+        }
+        (Form::Optional | Form::Refinement | Form::Unknown, _) => Ok(()),
     }
 }
 
@@ -102,7 +110,8 @@ fn push_around(
     shapes: &mut Parts<Shape>,
 ) -> Result<(), AllocError>
     ensures { OnOk result
-        (shapes.new ≡ shapes.old ++ formed (number_in names.now) key.now around (view value.now) (length shapes.old)) }
+        (shapes.new ≡ shapes.old
+        ++ formed (number_in names.now) key.now form.Around (view value.now) (length shapes.old)) }
 {
     let inner = number_after(shapes)?;
     shapes.push(around_shape(key, inner))?;
@@ -120,25 +129,10 @@ fn push_enumeration(
     value: &Snap,
     shapes: &mut Parts<Shape>,
 ) -> Result<(), AllocError>
-    ensures { OnOk result (shapes.new ≡ shapes.old ++ Shape.Enumeration (types.texts_of (view value.now)) ∷ []) }
+    ensures { OnOk result
+        (shapes.new ≡ shapes.old ++ Shape.Enumeration (types.texts_of (view value.now)) ∷ []) }
 {
     shapes.push(Shape::Enumeration(texts_of(alloc, value)?))
-}
-
-#[cycle(push)]
-fn push_optional(
-    alloc: Global,
-    names: &Names,
-    value: &Snap,
-    shapes: &mut Parts<Shape>,
-) -> Result<(), AllocError>
-    ensures { OnOk result
-        (shapes.new ≡ shapes.old ++ formed (number_in names.now) [] optional (view value.now) (length shapes.old)) }
-{
-    match value {
-        Snap::List(items) => push_defaulted(alloc, names, items.as_slice(), shapes),
-        _ => Ok(()),
-    }
 }
 
 /// A type and the default beside it.
@@ -150,7 +144,9 @@ fn push_defaulted(
     shapes: &mut Parts<Shape>,
 ) -> Result<(), AllocError>
     ensures { OnOk result
-        (shapes.new ≡ shapes.old ++ formed (number_in names.now) [] optional (list tt (items_view items.now)) (length shapes.old)) }
+        (shapes.new ≡ shapes.old
+        ++ formed (number_in names.now) [] form.Optional
+        (list tt (items_view items.now)) (length shapes.old)) }
 {
     if items.len() != 2 {
         return Ok(());
@@ -158,22 +154,6 @@ fn push_defaulted(
     let inner = number_after(shapes)?;
     shapes.push(Shape::Optional(inner, items[1].clone_in(alloc)?))?;
     push_type(alloc, names, &items[0], shapes)
-}
-
-#[cycle(push)]
-fn push_refinement(
-    alloc: Global,
-    names: &Names,
-    value: &Snap,
-    shapes: &mut Parts<Shape>,
-) -> Result<(), AllocError>
-    ensures { OnOk result
-        (shapes.new ≡ shapes.old ++ formed (number_in names.now) [] refinement (view value.now) (length shapes.old)) }
-{
-    match value {
-        Snap::List(items) => push_refined(alloc, names, items.as_slice(), shapes),
-        _ => Ok(()),
-    }
 }
 
 /// A type and the conditions beside it.
@@ -185,7 +165,9 @@ fn push_refined(
     shapes: &mut Parts<Shape>,
 ) -> Result<(), AllocError>
     ensures { OnOk result
-        (shapes.new ≡ shapes.old ++ formed (number_in names.now) [] refinement (list tt (items_view items.now)) (length shapes.old)) }
+        (shapes.new ≡ shapes.old
+        ++ formed (number_in names.now) [] form.Refinement
+        (list tt (items_view items.now)) (length shapes.old)) }
 {
     if items.len() != 2 {
         return Ok(());
@@ -203,7 +185,8 @@ fn push_union(
     shapes: &mut Parts<Shape>,
 ) -> Result<(), AllocError>
     ensures { OnOk result
-        (shapes.new ≡ shapes.old ++ formed (number_in names.now) [] union (view value.now) (length shapes.old)) }
+        (shapes.new ≡ shapes.old
+        ++ formed (number_in names.now) [] form.Union (view value.now) (length shapes.old)) }
 {
     let own = shapes.len();
     shapes.push(Shape::Null)?;
@@ -221,9 +204,11 @@ fn push_members(
     shapes: &mut Parts<Shape>,
 ) -> Result<Members, AllocError>
     ensures shapes { OnOk result
-        (shapes.new ≡ shapes.old ++ in_turn (item_shapes (number_in names.now) (view value.now)) (length shapes.old)) }
+        (shapes.new ≡ shapes.old
+        ++ in_turn (item_shapes (number_in names.now) (view value.now)) (length shapes.old)) }
     ensures numbers { IfOk result
-        (λ members. members ≡ numbers_in_turn (item_shapes (number_in names.now) (view value.now)) (length shapes.old)) }
+        (λ members. members
+        ≡ numbers_in_turn (item_shapes (number_in names.now) (view value.now)) (length shapes.old)) }
 {
     match value {
         Snap::List(items) => push_items(alloc, names, items.as_slice(), shapes),
@@ -239,9 +224,11 @@ fn push_items(
     shapes: &mut Parts<Shape>,
 ) -> Result<Members, AllocError>
     ensures shapes { OnOk result
-        (shapes.new ≡ shapes.old ++ in_turn (part_shapes (number_in names.now) (items_view items.now)) (length shapes.old)) }
+        (shapes.new ≡ shapes.old
+        ++ in_turn (part_shapes (number_in names.now) (items_view items.now)) (length shapes.old)) }
     ensures numbers { IfOk result
-        (λ members. members ≡ numbers_in_turn (part_shapes (number_in names.now) (items_view items.now)) (length shapes.old)) }
+        (λ members. members
+        ≡ numbers_in_turn (part_shapes (number_in names.now) (items_view items.now)) (length shapes.old)) }
 {
     let mut members = Parts::new(alloc);
     for item in items {

@@ -1,21 +1,23 @@
-use Rattle.std.proofs.Common.{[], codes, refl, sym, ◌∙◌, ap, Some, arith}
+use Rattle.std.proofs.Common.{[], codes, refl, sym, ◌∙◌, ap, arith}
 use Rattle.std.proofs.lemmas.Result.{IfOk-weaker}
 use Rattle.snap_core.specs.View.{view, fields_view}
 use Rattle.schema_form.specs.Faults.{first, under, number_faults, type_faults, numbered, parts_as_types}
-use Rattle.schema_form.specs.Inside.{inside_faults, form_found}
+use Rattle.schema_form.specs.Inside.{inside_faults}
 use Rattle.schema_form.proofs.First.{first-lowered, first-found, first-passed, items-passed, items-found, items-end}
 use Rattle.schema_form.proofs.Shapes.{optional-other, optional-pair, union-few, union-some, formed-other, formed-one, form-known}
 use Rattle.schema_form.proofs.expressions.+expressions.Goals as goal
 
-pub form_fault-returns : goal.form_fault-returns
-form_fault-returns t c =
+pub form_fault-returns-in_ok-inner-in_default-2 : goal.form_fault-returns-in_ok-inner-in_default-2
+form_fault-returns-in_ok-inner-in_default-2 t c =
     let types = fields_view c.args.types.now in
     let v = view c.args.value.now in
     let key = c.args.key.now in
-    IfOk-weaker _ _ _ (λ found is.
-    form-known types c.args.key_is_good key c.in-Some.form _ v found c.in-Some.ensures c.if-not-key_is_good.false
-    (first-lowered found c.in_ok-inner.inner key key (inside_faults types (form_found (Some c.in-Some.form)) v) is refl c.in_ok-inner.ensures))
-    c.under.ensures
+    let inner = c.in_ok-inner-in_default-2 in
+    rw (← c.form_of.ensures)
+    (IfOk-weaker _ _ _ (λ found is.
+    form-known types c.args.key_is_good key c.form_of.result v found c.in_default-2.not-Unknown c.if-not-key_is_good.false
+    (first-lowered found inner.inner key key (inside_faults types c.form_of.result v) is refl inner.ensures))
+    c.under.ensures)
 
 pub formed_fault-returns-then-fields-ne1 : goal.formed_fault-returns-then-fields-ne1
 formed_fault-returns-then-fields-ne1 t c =

@@ -1,7 +1,7 @@
 use Rattle.std.proofs.Common.{sym, subst}
 use Rattle.snap_core.specs.Value.{AreKeyed}
 use Rattle.snap_core.specs.View.{view}
-use Rattle.schema_read.proofs.FirstFault.{AreKeyed-entries}
+use Rattle.schema_form.proofs.Orders.{AreKeyed-entries}
 use Rattle.schema_read.proofs.parts.part.Goals as goal
 
 pub find-requires : goal.find-requires

@@ -16,9 +16,9 @@ place_in_items-returns-in-Found t c =
     let x = c.index-items-index.result in
     let now = items_at xs l.index x c.loop-index-test.true c.index-items-index.is in
     let found = rw c.in-Found.is at c.in_ok-path.ensures in
-    l.invariant (Found c.in_ok-moved_to_item-in-Found.field-0)
+    l.invariant (Found c.in_ok-under_index-in-Found.field-0)
     (found_here (decimal l.index) (type_places (view x)) (numbered (l.index + 1) (part_places (items_view (drop (l.index + 1) xs)))) (numbered l.index (part_places (items_view (drop l.index xs))))
-    l.left c.in-Found.path c.in_ok-moved_to_item-in-Found.field-0 now found c.in_ok-moved_to_item-in-Found.ensures)
+    l.left c.in-Found.path c.in_ok-under_index-in-Found.field-0 now found c.in_ok-under_index-in-Found.ensures)
 
 pub place_in_items-loop-index-preserved : goal.place_in_items-loop-index-preserved
 place_in_items-loop-index-preserved t c =
@@ -39,12 +39,12 @@ place_in_items-returns t c =
 
 pub place_in_object-returns-then-fields-ne1 : goal.place_in_object-returns-then-fields-ne1
 place_in_object-returns-then-fields-ne1 t c =
-    none_passed (type_places (dict tt (fields_view c.args.fields.now))) c.args.t (object_nowhere c.args.fields.now c.if-fields-ne1.true)
+    none_passed (type_places (dict tt (fields_view c.args.fields.now))) c.args.number (object_nowhere c.args.fields.now c.if-fields-ne1.true)
 
-pub place_in_object-returns-then-t-eq0 : goal.place_in_object-returns-then-t-eq0
-place_in_object-returns-then-t-eq0 t c =
+pub place_in_object-returns-then-number-eq0 : goal.place_in_object-returns-then-number-eq0
+place_in_object-returns-then-number-eq0 t c =
     let places = object_places c.args.fields.now c.index-fields-0.result c.if-fields-ne1.false c.index-fields-0.is in
-    ap (λ ps. slice_get ps c.args.t) places ∙ rw c.if-t-eq0.true (ap Some (sym c.new.ensures))
+    ap (λ ps. slice_get ps c.args.number) places ∙ rw c.if-number-eq0.true (ap Some (sym c.new.ensures))
 
 pub place_in_object-returns : goal.place_in_object-returns
 place_in_object-returns t c =
@@ -54,5 +54,5 @@ place_in_object-returns t c =
     let whole = type_places (dict tt (fields_view c.args.fields.now)) in
     let lowered = rw c.text-2.ensures at c.below.ensures in
     let formed = rw c.text.ensures at c.in_ok-place.ensures in
-    IfOk-weaker c.below.result _ (IsPlaceAmong whole c.args.t)
-    (λ lower h. subst (λ ps. IsPlaceAmong ps c.args.t lower) (sym places) (one_down (below f.key inner) c.args.t (c.args.t - 1) lower c.if-t-eq0.false refl (h inner (c.args.t - 1) formed))) lowered
+    IfOk-weaker c.below.result _ (IsPlaceAmong whole c.args.number)
+    (λ lower h. subst (λ ps. IsPlaceAmong ps c.args.number lower) (sym places) (one_down (below f.key inner) c.args.number (c.args.number - 1) lower c.if-number-eq0.false refl (h inner (c.args.number - 1) formed))) lowered

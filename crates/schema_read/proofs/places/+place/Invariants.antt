@@ -9,4 +9,4 @@ use Rattle.schema_read.proofs.places.+place.Given as goal
 abbrev pub invariant-place_in_items-loop-index : goal.invariant-place_in_items-loop-index
 invariant-place_in_items-loop-index l =
     (place : Place) → IsPlaceAmong (numbered l.index (part_places (items_view (drop l.index l.items)))) l.left place
-    → IsPlaceAmong (numbered 0 (part_places (items_view l.items))) l.t place
+    → IsPlaceAmong (numbered 0 (part_places (items_view l.items))) l.number place

@@ -14,9 +14,9 @@ returns-in-Found c =
     let f = c.field-item.result in
     let now = ap entries_places (entries_at fs l.field-index f c.loop-field-test.true c.field-item.is) in
     let found = rw c.in-Found.is at c.in_ok-path.ensures in
-    l.invariant (Found c.in_ok-moved_down-in-Found.field-0)
+    l.invariant (Found c.in_ok-under-in-Found.field-0)
     (found_here f.key (entry_places (model_in (view f.value)) (view f.value)) (entries_places (fields_view (drop (l.field-index + 1) fs))) (entries_places (fields_view (drop l.field-index fs)))
-    l.left c.in-Found.path c.in_ok-moved_down-in-Found.field-0 now found (rw c.text.ensures at c.in_ok-moved_down-in-Found.ensures))
+    l.left c.in-Found.path c.in_ok-under-in-Found.field-0 now found (rw c.text.ensures at c.in_ok-under-in-Found.ensures))
 
 pub loop-field-preserved : goal.loop-field-preserved
 loop-field-preserved c =

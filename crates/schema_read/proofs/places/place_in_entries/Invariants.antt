@@ -9,4 +9,4 @@ use Rattle.schema_read.proofs.places.place_in_entries.Given as goal
 abbrev pub invariant-loop-field : goal.invariant-loop-field
 invariant-loop-field l =
     (place : Place) → IsPlaceAmong (entries_places (fields_view (drop l.field-index l.fields))) l.left place
-    → IsPlaceAmong (entries_places (fields_view l.fields)) l.t place
+    → IsPlaceAmong (entries_places (fields_view l.fields)) l.number place

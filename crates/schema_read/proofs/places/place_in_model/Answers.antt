@@ -10,6 +10,6 @@ pub returns : goal.returns
 returns c =
     let inner = property_places (fields_view c.args.fields.now) in
     let properties = below (codes "properties") inner in
-    IfOk-weaker c.below-2.result _ (IsPlaceAmong ([] ∷ below (codes "model") properties) c.args.t)
-    (λ lower h. one_down (below (codes "model") properties) c.args.t (c.args.t - 1) lower c.if-t-eq0.false refl
-    (h properties (c.args.t - 1) (c.in_ok-place-2.ensures inner (c.args.t - 1) c.in_ok-place.ensures))) c.below-2.ensures
+    IfOk-weaker c.below-2.result _ (IsPlaceAmong ([] ∷ below (codes "model") properties) c.args.number)
+    (λ lower h. one_down (below (codes "model") properties) c.args.number (c.args.number - 1) lower c.if-number-eq0.false refl
+    (h properties (c.args.number - 1) (c.in_ok-place-2.ensures inner (c.args.number - 1) c.in_ok-place.ensures))) c.below-2.ensures

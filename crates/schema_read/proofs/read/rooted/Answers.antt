@@ -37,7 +37,7 @@ returns-in-Ok-clause-ok c =
       rooted = c.requires.root ∙ ap Some (sym known.root);
       types = rw (read.shapes, read.models, c.types_of-entries.ensures) at known.table;
       faultless = known.faultless;
-      defaults = record { known = sound.known; made = sound.made };
+      defaults = sound.defaults;
       history = c.history_of.ensures;
     }
 

@@ -1,0 +1,11 @@
+ghost use Rattle.schema_read.specs.Laws.{SchemaHasNoFault, FirstFaultIsOne};
+
+/// Bytes that are a schema have no fault.
+pub fn schema_has_no_fault()
+    ensures { SchemaHasNoFault }
+{}
+
+/// Bytes have one first fault at most.
+pub fn first_fault_is_one()
+    ensures { FirstFaultIsOne }
+{}
