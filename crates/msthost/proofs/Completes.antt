@@ -2,6 +2,7 @@
 use Rattle.std.proofs.Common.{◌≡◌, ℕ, ◌+◌, ◌<◌, ◌≤◌, ◌⊎◌, inl, inr, List, [], ◌∷◌, ◌++◌, length, length-append, append-nil, map, Bool, true, false, ◌&&◌, cond, Option, Some, None, refl, sym, ◌∙◌, ap, subst, arith}
 use Rattle.std.specs.Prelude.{IsSomeAnd, nat_le, codes}
 use Rattle.std.proofs.lemmas.Bool.{leb-true}
+use Rattle.std.proofs.lemmas.Option.{same_Some}
 use Rattle.std.specs.List.{list_all}
 use Rattle.std.specs.Char.{is_ascii_digit}
 use Rattle.std.specs.Str.Parse.{digits_value}
@@ -13,7 +14,6 @@ use Rattle.http_front.proofs.LawLemmas.{whole_is_only}
 use Rattle.edge_core.specs.Faults.{HasRisen}
 use Rattle.edge_core.specs.Door.{Links, BothTold}
 use Rattle.snap_json.specs.Reading.{reading}
-use Rattle.snap_core.specs.Value.{Value}
 use Rattle.type_core.specs.Table.{Catalog}
 use Rattle.msthost.specs.declared.exit.Exit.{Exit}
 use Rattle.msthost.specs.declared.exit.Exit.TheVariants.{Done, Checked, Usage, Unread, Syntax, Refused, DoorFailed, Memory, Inside}
@@ -22,21 +22,17 @@ use Rattle.msthost.specs.Link.{Answers, written_for, status_for, reading_reply}
 use Rattle.pointer_core.specs.declared.schema_rule.SchemaRule.{SchemaRule}
 use Rattle.snap_json.specs.Loose.{loosely}
 use Rattle.type_core.specs.Sound.{IsSound}
-use Rattle.type_core.specs.Faults.{HasFault}
 use Rattle.expr_core.specs.Schema.{Schema}
-use Rattle.schema_form.specs.declared.fault.Fault.{Fault}
-use Rattle.schema_read.specs.Schema.{IsSchema, IsFirst, in_form, at_root, in_types, Spells, HasFirst}
+use Rattle.schema_read.specs.Schema.{IsSchema, Spells}
 use Rattle.msthost.specs.Words.{Command, check, run}
 use Rattle.msthost.specs.Serving.{most_bytes, Served, AnswersLink, EndsWith}
 use Rattle.msthost.specs.Run.{Files, IfFile, IsTooLong, IsFileOf, IsSchemaOf, IsNoJson, IsFaulty, Answered, Causes, FileIsGiven, SchemaIsGiven, RequestIsGiven, IsReplied}
+use Rattle.schema_read.proofs.LawLemmas.{schema_has_no_fault}
 use Rattle.msthost.proofs.Same.{answers-alike}
-
-some_same : {X : Type 0} (x y : X) → Some x ≡ Some y → x ≡ y
-some_same x y e = cc
 
 -- a body's length is at most 262,144
 guarded : (b : Bool) (n m : ℕ) → cond b (Some n) None ≡ Some m → (b ≡ true) × (n ≡ m)
-guarded true n m e = (refl, some_same n m e)
+guarded true n m e = (refl, same_Some n m e)
 guarded false n m e = cc
 
 second : (a b : Bool) → a && b ≡ true → b ≡ true
@@ -121,20 +117,7 @@ of_file files name file P given fact =
     let found : IsSomeAnd (Some file) P = subst (λ o. IsSomeAnd o P) given.found told in
     found
 
--- a schema has no first fault, and is JSON
-no-fault : (file : List ℕ) (schema : Schema) (fault : Fault) → Spells file schema → HasFirst file fault → ⊥
-no-fault file schema fault x y = by_reading (loosely file) x y
-  where
-    no_first : (v : Value) (f : Fault) → IsSchema v schema → IsFirst v f → ⊥
-    no_first v f is (in_form _ rest e) = let none : [] ≡ f ∷ rest = sym is.formed ∙ e in cc
-    no_first v _ is (at_root e none) = let some : Some schema.types.root ≡ None = sym is.rooted ∙ none in cc
-    no_first v _ is (in_types root t path r e named first at) =
-        is.faultless t r (subst (λ table. HasFault table t r) (sym is.types) first.fault)
-
-    by_reading : (o : Option Value) → IsSomeAnd o (λ v. IsSchema v schema) → IsSomeAnd o (λ v. IsFirst v fault) → ⊥
-    by_reading None x y = x
-    by_reading (Some v) x y = no_first v fault x y
-
+-- a schema is JSON
 some-reading : (file : List ℕ) (schema : Schema) → Spells file schema → loosely file ≡ None → ⊥
 some-reading file schema x e = let none : IsSomeAnd None (λ v. IsSchema v schema) = subst (λ o. IsSomeAnd o (λ v. IsSchema v schema)) e x in none
 
@@ -148,7 +131,7 @@ module _ (files : Files) (name file : List ℕ) (given : FileIsGiven files name 
   not-faulty : (pointer : List ℕ) (rule : SchemaRule) → IfFile files name (IsFaulty pointer rule) → ⊥
   not-faulty pointer rule other =
       let faulty = of_file files name file (IsFaulty pointer rule) given other in
-      no-fault file schema (record { path = faulty.path; rule = rule }) is.spells faulty.first
+      schema_has_no_fault file schema (record { path = faulty.path; rule = rule }) is.spells faulty.first
 
 -- what a run by a file that is given got
 answered_given : (files : Files) (name file : List ℕ) (given : FileIsGiven files name file) (before after : Option Links) (theirs : Schema) (body : List ℕ) (status : ℕ)

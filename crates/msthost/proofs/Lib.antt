@@ -3,9 +3,9 @@ pub mod Ends
 pub mod Exits
 pub mod Grammar
 pub mod Links
-pub mod Root
 pub mod Row
 pub mod Runs
 pub mod Same
 pub mod Says
 pub mod Statuses
+pub mod Told

@@ -5,7 +5,8 @@ use Rattle.std.proofs.Common.{◌+◌, ◌-◌, ◌<◌, ◌≤◌, take, drop, 
 use Rattle.std.specs.Option.{is_some, IfSome}
 use Rattle.std.specs.Result.{OnErr}
 use Rattle.edge_core.specs.Door.{Link, Links, BothTold, Reads, Writes}
-use Rattle.msthost.specs.Serving.{Brings, BringsAll, BringsSome, Takes, TakesPart}
+use Rattle.msthost.specs.Serving.{Brings, BringsAll, BringsSome, TakesPart}
+use Rattle.msthost.proofs.Told.{both-map, both-then}
 
 -- where links are told, one of them is open
 abbrev pub IsOpen : Option Links → Type 0
@@ -41,13 +42,8 @@ brings_read old mid new p q x y =
       after = y.after ∙ ap (λ (links : Links). record links { current = Some (record { left = y.left; written = y.written }) }) x.after;
     }
 
-pub brings-more : (a b c : Option Links) (p q : List ℕ) → BothTold (Brings p) a b → BothTold (Reads q) b c → BothTold (Brings (p ++ q)) a c
-brings-more None None None p q x y = tt
-brings-more None None (Some c) p q x y = absurd y
-brings-more None (Some b) c p q x y = absurd x
-brings-more (Some a) None c p q x y = absurd x
-brings-more (Some a) (Some b) None p q x y = absurd y
-brings-more (Some a) (Some b) (Some c) p q x y = brings_read a b c p q x y
+brings-more : (a b c : Option Links) (p q : List ℕ) → BothTold (Brings p) a b → BothTold (Reads q) b c → BothTold (Brings (p ++ q)) a c
+brings-more a b c p q = both-then (Brings p) (Reads q) (Brings (p ++ q)) (λ x y z. brings_read x y z p q) a b c
 
 -- nothing more comes
 brings_end : (most : ℕ) (old mid new : Links) (p : List ℕ) → length p ≤ most → Brings p old mid → Reads [] mid new → BringsAll most p old new
@@ -55,36 +51,17 @@ unfolding brings_read
 brings_end most old mid new p h x y =
     let all = brings_read old mid new p [] x y in
     record {
-      left = all.left;
-      written = all.written;
-      before = subst (λ xs. old.current ≡ Some (record { left = xs ++ all.left; written = all.written })) (append-nil p) all.before;
-      after = all.after;
+      brings = record {
+        left = all.left;
+        written = all.written;
+        before = subst (λ xs. old.current ≡ Some (record { left = xs ++ all.left; written = all.written })) (append-nil p) all.before;
+        after = all.after;
+      };
       at_most = h;
       all = inl (y.at_end refl);
     }
 
-pub brings-end : (most : ℕ) (a b c : Option Links) (p : List ℕ) → length p ≤ most → BothTold (Brings p) a b → BothTold (Reads []) b c → BothTold (BringsAll most p) a c
-brings-end most None None None p h x y = tt
-brings-end most None None (Some c) p h x y = absurd y
-brings-end most None (Some b) c p h x y = absurd x
-brings-end most (Some a) None c p h x y = absurd x
-brings-end most (Some a) (Some b) None p h x y = absurd y
-brings-end most (Some a) (Some b) (Some c) p h x y = brings_end most a b c p h x y
-
--- the room is full
-pub brings-full : (most : ℕ) (a b : Option Links) (p : List ℕ) → length p ≡ most → BothTold (Brings p) a b → BothTold (BringsAll most p) a b
-brings-full most None None p e x = tt
-brings-full most None (Some b) p e x = absurd x
-brings-full most (Some a) None p e x = absurd x
-brings-full most (Some a) (Some b) p e x = record { left = x.left; written = x.written; before = x.before; after = x.after; at_most = omega (arith, e); all = inr e }
-
-pub brings-some : (most : ℕ) (a b : Option Links) (p : List ℕ) → length p ≤ most → BothTold (Brings p) a b → BothTold (BringsSome most) a b
-brings-some most None None p h x = tt
-brings-some most None (Some b) p h x = absurd x
-brings-some most (Some a) None p h x = absurd x
-brings-some most (Some a) (Some b) p h x = record { came = p; brings = x; at_most = h }
-
-pub takes-none : (a : Option Links) → IsOpen a → BothTold (Takes []) a a
+pub takes-none : (a : Option Links) → IsOpen a → BothTold (Writes []) a a
 takes-none None e = tt
 takes-none (Some links) e =
     let open_link : (link : Link) × (links.current ≡ Some link) = current_of links e in
@@ -96,7 +73,7 @@ takes-none (Some links) e =
           ∙ ap (λ xs. record links { current = Some (record { left = open_link.0.left; written = xs }) }) (sym (append-nil open_link.0.written));
     }
 
-takes_write : (old mid new : Links) (p q : List ℕ) → Takes p old mid → Writes q mid new → Takes (p ++ q) old new
+takes_write : (old mid new : Links) (p q : List ℕ) → Writes p old mid → Writes q mid new → Writes (p ++ q) old new
 takes_write old mid new p q x y =
     let same : record { left = x.left; written = x.written ++ p } ≡ record { left = y.left; written = y.written } = same_link old mid _ _ x.after y.before in
     let lefts : x.left ≡ y.left = ap (λ (l : Link). l.left) same in
@@ -110,20 +87,6 @@ takes_write old mid new p q x y =
           ∙ ap (λ (xs : List ℕ). record old { current = Some (record { left = x.left; written = xs ++ q }) }) (sym texts)
           ∙ ap (λ (xs : List ℕ). record old { current = Some (record { left = x.left; written = xs }) }) (append_assoc x.written p q);
     }
-
-pub takes-more : (a b c : Option Links) (p q : List ℕ) → BothTold (Takes p) a b → BothTold (Writes q) b c → BothTold (Takes (p ++ q)) a c
-takes-more None None None p q x y = tt
-takes-more None None (Some c) p q x y = absurd y
-takes-more None (Some b) c p q x y = absurd x
-takes-more (Some a) None c p q x y = absurd x
-takes-more (Some a) (Some b) None p q x y = absurd y
-takes-more (Some a) (Some b) (Some c) p q x y = takes_write a b c p q x y
-
-pub takes-part : (a b : Option Links) (bytes p rest : List ℕ) → bytes ≡ p ++ rest → 0 < length rest → BothTold (Takes p) a b → BothTold (TakesPart bytes) a b
-takes-part None None bytes p rest e h x = tt
-takes-part None (Some b) bytes p rest e h x = absurd x
-takes-part (Some a) None bytes p rest e h x = absurd x
-takes-part (Some a) (Some b) bytes p rest e h x = record { part = p; rest = rest; whole = e; lacks = h; takes = x }
 
 -- the first m are the first f, and then those up to m
 front : (f m : ℕ) (xs : List ℕ) → f ≤ m → take f xs ++ take (m - f) (drop f xs) ≡ take m xs
@@ -148,26 +111,37 @@ pub read_end : (most f : ℕ) (a b c : Option Links) (xs ys : List ℕ) → f �
 read_end most f a b c xs ys h kept x y =
     let none : f - f ≡ 0 = omega arith in
     subst (λ zs. BothTold (BringsAll most zs) a c) (sym kept)
-    (brings-end most a b c _ (front_fits f most xs h) x (subst (λ n. BothTold (Reads (take n (drop f ys))) b c) none y))
+    (both-then (Brings (take f xs)) (Reads []) (BringsAll most (take f xs))
+    (λ p q r. brings_end most p q r (take f xs) (front_fits f most xs h)) a b c x (subst (λ n. BothTold (Reads (take n (drop f ys))) b c) none y))
 
 -- and once the room is full
 pub read_full : (f : ℕ) (a b : Option Links) (xs : List ℕ) → f ≤ length xs → length xs ≤ f → BothTold (Brings (take f xs)) a b
     → BothTold (BringsAll (length xs) (take f xs)) a b
-read_full f a b xs h k x = brings-full (length xs) a b (take f xs) (omega (arith, h, k, length-take f xs)) x
+read_full f a b xs h k x =
+    let e : length (take f xs) ≡ length xs = omega (arith, h, k, length-take f xs) in
+    both-map (Brings (take f xs)) (BringsAll (length xs) (take f xs)) (λ p q y. record { brings = y; at_most = omega (arith, e); all = inr e }) a b x
 
 -- and where a read failed
 pub read_some : (most f : ℕ) (a b c : Option Links) (xs : List ℕ) → f ≤ most → c ≡ b → BothTold (Brings (take f xs)) a b → BothTold (BringsSome most) a c
-read_some most f a b c xs h same x = subst (λ d. BothTold (BringsSome most) a d) (sym same) (brings-some most a b _ (front_fits f most xs h) x)
+read_some most f a b c xs h same x =
+    subst (λ d. BothTold (BringsSome most) a d) (sym same)
+    (both-map (Brings (take f xs)) (BringsSome most) (λ p q y. record { came = take f xs; brings = y; at_most = front_fits f most xs h }) a b x)
 
 -- what is written after one more write
 pub write_on : (a b c : Option Links) (f m : ℕ) (xs : List ℕ) → f ≤ m
-    → BothTold (Takes (take f xs)) a b → BothTold (Writes (take (m - f) (drop f xs))) b c → BothTold (Takes (take m xs)) a c
-write_on a b c f m xs h x y = subst (λ zs. BothTold (Takes zs) a c) (front f m xs h) (takes-more a b c _ _ x y)
+    → BothTold (Writes (take f xs)) a b → BothTold (Writes (take (m - f) (drop f xs))) b c → BothTold (Writes (take m xs)) a c
+write_on a b c f m xs h x y =
+    let p = take f xs in
+    let q = take (m - f) (drop f xs) in
+    subst (λ zs. BothTold (Writes zs) a c) (front f m xs h)
+    (both-then (Writes p) (Writes q) (Writes (p ++ q)) (λ r s t. takes_write r s t p q) a b c x y)
 
-pub write_part : (a b c : Option Links) (f : ℕ) (xs : List ℕ) → f < length xs → c ≡ b → BothTold (Takes (take f xs)) a b → BothTold (TakesPart xs) a c
+pub write_part : (a b c : Option Links) (f : ℕ) (xs : List ℕ) → f < length xs → c ≡ b → BothTold (Writes (take f xs)) a b → BothTold (TakesPart xs) a c
 write_part a b c f xs h same x =
     let lacks : 0 < length (drop f xs) = omega (arith, h, length-drop f xs) in
-    subst (λ d. BothTold (TakesPart xs) a d) (sym same) (takes-part a b xs _ (drop f xs) (sym (take-append-drop f xs)) lacks x)
+    subst (λ d. BothTold (TakesPart xs) a d) (sym same)
+    (both-map (Writes (take f xs)) (TakesPart xs)
+    (λ p q y. record { part = take f xs; rest = drop f xs; whole = sym (take-append-drop f xs); lacks = lacks; takes = y }) a b x)
 
 -- what holds anyway holds at an error
 pub on_err : {T E : Type 0} (r : Result T E) (P : Type 0) → P → OnErr r P

@@ -1,6 +1,7 @@
 -- All schemas that one file spells answer alike.
 use Rattle.std.proofs.Common.{◌≡◌, ℕ, List, ◌∷◌, Option, Some, None, IsSome, refl, sym, ◌∙◌, ap, subst}
 use Rattle.std.specs.Prelude.{IsSomeAnd, length, slice_get}
+use Rattle.std.proofs.lemmas.Option.{same_Some}
 use mathlib.Core.Path.{fun_ext}
 use Rattle.snap_core.specs.Value.{Value, null, boolean, integer, text, list, dict, Parts, no_parts, part, Members, no_members, member}
 use Rattle.snap_core.specs.declared.snap.Snap.{Snap}
@@ -21,9 +22,6 @@ use Rattle.type_core.proofs.Laws.{named-leads, made_by-complete}
 use Rattle.expr_core.specs.Schema.{Schema}
 use Rattle.schema_read.specs.Schema.{IsSchema, Spells}
 use Rattle.msthost.specs.Link.{own_type, root_type, making_reply, reading_reply}
-
-some_same : {X : Type 0} (x y : X) → Some x ≡ Some y → x ≡ y
-some_same x y e = cc
 
 -- making reads the defaults by what each type makes of no value
 module _ (table : Table) (ours theirs : List (Option Snap)) (same : (t : ℕ) → absent table ours t ≡ absent table theirs t) where
@@ -95,7 +93,7 @@ schemas-same : (file : Value) (ours theirs : Schema) → IsSchema file ours → 
     → (theirs.types.table ≡ ours.types.table) × (theirs.types.root ≡ ours.types.root) × HasDefaults theirs.types
 schemas-same file ours theirs x y =
     let roots : Some theirs.types.root ≡ Some ours.types.root = sym y.rooted ∙ x.rooted in
-    (y.types ∙ sym x.types, some_same theirs.types.root ours.types.root roots, y.defaults)
+    (y.types ∙ sym x.types, same_Some theirs.types.root ours.types.root roots, y.defaults)
 
 -- the replies of a file's types are one, whichever schema it is taken for
 pub answers-alike : (file : List ℕ) (ours theirs : Schema) → Spells file ours → Spells file theirs → IsSound ours.types

@@ -1,5 +1,5 @@
 -- One link: which bytes answer the bytes that came.
-use Rattle.std.specs.Prelude.{◌≡◌, ℕ, List, [], ◌∷◌, ◌++◌, codes, slice_get, Bool, true, false, Option, Some, None, Ok, Err}
+use Rattle.std.specs.Prelude.{◌≡◌, ℕ, ◌<◌, List, [], ◌∷◌, ◌++◌, length, codes, slice_get, Bool, true, false, Option, Some, None, Ok, Err}
 use Rattle.std.specs.List.{flat_map}
 use Rattle.snap_core.specs.Value.{Value, text, dict}
 use Rattle.snap_core.specs.View.{members_of}
@@ -65,7 +65,8 @@ reading_reply types syntax = rule_reply false Syntax
 -- the fixed reply where memory runs out
 abbrev pub memory_reply : List ℕ
 memory_reply =
-    flat_map line (codes "HTTP/1.1 500 Internal Server Error" ∷ codes "Content-Type: application/json" ∷ codes "Content-Length: 18" ∷ codes "Connection: close" ∷ [] ∷ [])
+    flat_map line (codes "HTTP/1.1 500 Internal Server Error" ∷ codes "Content-Type: application/json"
+    ∷ codes "Content-Length: 18" ∷ codes "Connection: close" ∷ [] ∷ [])
     ++ codes "{\"error\":\"memory\"}"
 
 -- what is written to a link: one request is answered, and bytes after it aren't taken
@@ -91,3 +92,10 @@ abbrev pub Answers : Catalog → List ℕ → List ℕ → ℕ → Type 0
 Answers types [] written status = (written ≡ []) × (status ≡ 0)
 Answers types (b ∷ bytes) written status =
     (arrival : Arrival) × Arrives (b ∷ bytes) arrival × (written ≡ written_for types arrival) × (status ≡ status_for arrival)
+
+-- a reply is due: some bytes came, and they don't end inside a request
+pub record IsDue (came : List ℕ) : Type 0 where
+  pub some : 0 < length came
+  pub arrival : Arrival
+  pub arrives : Arrives came arrival
+  pub ended : status_for arrival ≡ 0

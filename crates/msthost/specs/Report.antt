@@ -4,6 +4,7 @@ use Rattle.edge_core.specs.Faults.{HasRisen}
 use Rattle.msthost.specs.Words.{Command}
 use Rattle.msthost.specs.Exit.{exit_code, told_err, told_out}
 use Rattle.msthost.specs.declared.exit.Exit.{Exit}
+use Rattle.msthost.specs.declared.exit.Exit.TheVariants.{Done}
 
 -- what standard output and standard error hold, where it is told, and how many faults the world counted
 pub record Streams : Type 0 where
@@ -28,9 +29,15 @@ pub record Tells (command : Option Command) (exit : Exit) (status : ℕ) (old ne
   pub err : Gets (told_err command exit) old.err new.err
   pub out : Gets (told_out exit) old.out new.out
 
--- a writing failed: a beginning of what the exit tells was written, and 10 is answered
+-- an exit that tells something
+abbrev pub IsTold : Exit → Type 0
+IsTold Done = ⊥
+IsTold _ = Unit {0}
+
+-- there was something to tell, and a writing failed: a beginning of what the exit tells was written, and 10 is answered
 pub record FailsToTell (command : Option Command) (exit : Exit) (status : ℕ) (old new : Streams) : Type 0 where
   pub answers : status ≡ 10
+  pub due : IsTold exit
   pub risen : HasRisen old.faults new.faults
   pub err : GetsPart (told_err command exit) old.err new.err
   pub out : GetsPart (told_out exit) old.out new.out

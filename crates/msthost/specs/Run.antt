@@ -1,5 +1,5 @@
 -- One run of the program: which outcome has which cause.
-use Rattle.std.specs.Prelude.{◌≡◌, ℕ, ◌<◌, ◌≤◌, ◌⊎◌, List, [], ◌∷◌, ◌++◌, length, codes, Option, Some, None, Result, Ok, Err, IsSome, IsSomeAnd, ⊤}
+use Rattle.std.specs.Prelude.{◌≡◌, ℕ, ◌<◌, ◌≤◌, ◌⊎◌, List, [], ◌∷◌, ◌++◌, length, codes, Bool, IsTrue, Option, Some, None, Result, Ok, Err, IsSome, IsSomeAnd, ⊤}
 use Rattle.edge_core.specs.Faults.{HasRisen}
 use Rattle.edge_core.specs.World.{file_of}
 use Rattle.edge_core.specs.Door.{Links, BothTold}
@@ -15,7 +15,7 @@ use Rattle.http_front.specs.Arrival.{whole, Arrives}
 use Rattle.msthost.specs.Words.{Command, check, run, name_in}
 use Rattle.msthost.specs.declared.exit.Exit.{Exit}
 use Rattle.msthost.specs.declared.exit.Exit.TheVariants.{Done, Checked, Usage, Unread, Syntax, Refused, DoorFailed, Memory, Inside}
-use Rattle.msthost.specs.Serving.{Served, EndsWith, Faults, LacksMemory}
+use Rattle.msthost.specs.Serving.{Served, EndsWith, Faults, RunsOut}
 use Rattle.msthost.specs.Report.{Streams, Gets, Reports}
 
 -- files by name, where they are told
@@ -79,18 +79,26 @@ pub record IsFaulty (pointer : List ℕ) (rule : SchemaRule) (file : List ℕ) :
   pub spelled : pointer ≡ printed path
   pub first : HasFirst file (record { path = path; rule = rule })
 
--- the command is run, its file is a schema of these types, which have no fault, and the door's next link ends with this status
+-- the command is run, its file is a schema of these types, which have no fault, and the door's next link ends with this
+-- status
 pub record Answered (command : Option Command) (files : Files) (status : ℕ) (before after : Option Links) : Type 0 where
   pub types : Catalog
   pub sound : IsSound types
   pub schema : IfRunFile files command (IsSchemaOf types)
   pub ends : BothTold (EndsWith types status) before after
 
--- the command is run, its file is a schema of these types, and the links are as they were, or what was written to the next one is the beginning of an answer
+-- the command is run, its file is a schema of these types, which have no fault, and the links are as they were, or what was
+-- written to the next one is the beginning of an answer
 pub record Broken (command : Option Command) (files : Files) (before after : Option Links) : Type 0 where
   pub types : Catalog
+  pub sound : IsSound types
   pub schema : IfRunFile files command (IsSchemaOf types)
   pub faults : BothTold (Faults types) before after
+
+-- the command is run, its file is a schema, and the next link got the fixed reply for want of memory
+pub record OutOfMemory (command : Option Command) (files : Files) (before after : Option Links) : Type 0 where
+  pub schema : IfRunFile files command IsSchemaFile
+  pub links : BothTold RunsOut before after
 
 -- each exit's cause, where the world's faults were counted from w to v and the door's from d to e
 abbrev pub Causes : Option Command → Files → ℕ → ℕ → Option Links → Option Links → ℕ → ℕ → Exit → Type 0
@@ -102,15 +110,32 @@ Causes command files w v before after d e Checked = IfCheckFile files command Is
 Causes command files w v before after d e Done = Answered command files 0 before after
 Causes command files w v before after d e Inside = Answered command files 9 before after
 Causes command files w v before after d e DoorFailed = HasRisen d e × Broken command files before after
-Causes command files w v before after d e Memory = IsSome command × BothTold LacksMemory before after
+Causes command files w v before after d e Memory = IsSome command
 
--- the run came to an exit that has its cause, when the world had counted so many faults, and then the exit was reported with this status
-pub record Ends (command : Option Command) (files : Files) (before after : Option Links) (d e : ℕ) (status : ℕ) (old new : Streams) : Type 0 where
+-- What an exit says of the door itself: it is untouched where the exit comes before it; it is attached where the exit tells
+-- of its links; and for want of memory it is untouched, or the next link got the fixed reply.
+abbrev pub LeavesDoor : Option Command → Files → Exit → Type 0 → Bool → Option Links → Option Links → Type 0
+LeavesDoor command files Usage untouched attached before after = untouched
+LeavesDoor command files Unread untouched attached before after = untouched
+LeavesDoor command files Syntax untouched attached before after = untouched
+LeavesDoor command files (Refused pointer rule) untouched attached before after = untouched
+LeavesDoor command files Checked untouched attached before after = untouched
+LeavesDoor command files Done untouched attached before after = IsTrue attached
+LeavesDoor command files Inside untouched attached before after = IsTrue attached
+LeavesDoor command files DoorFailed untouched attached before after = ⊤
+LeavesDoor command files Memory untouched attached before after = untouched ⊎ OutOfMemory command files before after
+
+-- the run came to an exit that has its cause, when the world had counted so many faults, it left the door as that exit says,
+-- and then the exit was reported with this status
+pub record Ends
+    (command : Option Command) (files : Files) (untouched : Type 0) (attached : Bool) (before after : Option Links) (d e : ℕ)
+    (status : ℕ) (old new : Streams) : Type 0 where
   pub exit : Exit
   pub faults : ℕ
   pub no_fewer : old.faults ≤ faults
   pub no_more : faults ≤ new.faults
   pub causes : Causes command files old.faults faults before after d e exit
+  pub door : LeavesDoor command files exit untouched attached before after
   pub reports : Reports command exit status (record old { faults = faults }) new
 
 -- the message names the file's first fault
@@ -122,7 +147,8 @@ pub record RefusesAt (command : Option Command) (files : Files) (old new : Optio
 
 -- the file is no JSON, or has a first fault, and the message on standard error says so
 abbrev pub Refuses : Option Command → Files → Option (List ℕ) → Option (List ℕ) → Type 0
-Refuses command files old new = (IfCommandFile files command IsNoJson × Gets (codes "schema: syntax\n") old new) ⊎ RefusesAt command files old new
+Refuses command files old new =
+    (IfCommandFile files command IsNoJson × Gets (codes "schema: syntax\n") old new) ⊎ RefusesAt command files old new
 
 -- files are told, and there is such a file of that name
 pub record FileIsGiven (files : Files) (name file : List ℕ) : Type 0 where
@@ -138,8 +164,10 @@ pub record SchemaIsGiven (command : Option Command) (files : Files) : Type 0 whe
   pub given : FileIsGiven files name file
   pub schema : IsSchemaFile file
 
--- the command is run, its file is given and is a schema of these types, and the next link is told and brings one whole request
-pub record RequestIsGiven (command : Option Command) (files : Files) (before : Option Links) (types : Catalog) (body : List ℕ) : Type 0 where
+-- the command is run, its file is given and is a schema of these types, and the next link is told and brings one whole
+-- request
+pub record RequestIsGiven
+    (command : Option Command) (files : Files) (before : Option Links) (types : Catalog) (body : List ℕ) : Type 0 where
   pub name : List ℕ
   pub file : List ℕ
   pub named : command ≡ Some (run name)
@@ -157,13 +185,12 @@ pub record IsReplied (reply : List ℕ) (before after : Option Links) : Type 0 w
   pub came : List ℕ
   pub served : BothTold (Served came [] reply) before after
 
--- a fact where the door wasn't touched yet; for private clauses
-abbrev pub IfBeforeDoor : Exit → Type 0 → Type 0
-IfBeforeDoor Usage P = P
-IfBeforeDoor Unread P = P
-IfBeforeDoor Syntax P = P
-IfBeforeDoor (Refused pointer rule) P = P
-IfBeforeDoor _ P = ⊤
+-- an exit that comes before the door; for private clauses
+abbrev pub IsBeforeDoor : Exit → Type 0
+IsBeforeDoor Done = ⊥
+IsBeforeDoor Inside = ⊥
+IsBeforeDoor DoorFailed = ⊥
+IsBeforeDoor _ = ⊤
 
 -- what loading a schema file comes to; for private clauses
 abbrev pub Loads : Files → List ℕ → ℕ → ℕ → Result Schema Exit → Type 0
@@ -178,7 +205,8 @@ Loads files name w v (Err _) = ⊥
 abbrev pub SchemaOf : List ℕ → Result Schema Exit → Type 0
 SchemaOf file (Ok schema) = Spells file schema
 SchemaOf file (Err Syntax) = loosely file ≡ None
-SchemaOf file (Err (Refused pointer rule)) = (path : Path) × (pointer ≡ printed path) × HasFirst file (record { path = path; rule = rule })
+SchemaOf file (Err (Refused pointer rule)) =
+    (path : Path) × (pointer ≡ printed path) × HasFirst file (record { path = path; rule = rule })
 SchemaOf file (Err Memory) = ⊤
 SchemaOf file (Err _) = ⊥
 

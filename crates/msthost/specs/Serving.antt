@@ -1,8 +1,8 @@
 -- What serving one link leaves of a door's links.
-use Rattle.std.specs.Prelude.{◌≡◌, ℕ, ◌<◌, ◌≤◌, ◌⊎◌, List, [], ◌∷◌, ◌++◌, length, Some, None}
-use Rattle.edge_core.specs.Door.{Links, after_shut}
+use Rattle.std.specs.Prelude.{◌≡◌, ℕ, ◌<◌, ◌≤◌, ◌⊎◌, List, [], ◌∷◌, ◌++◌, length, Option, Some, None}
+use Rattle.edge_core.specs.Door.{Links, BothTold, Writes, after_shut}
 use Rattle.type_core.specs.Table.{Catalog}
-use Rattle.msthost.specs.Link.{Answers, memory_reply}
+use Rattle.msthost.specs.Link.{Answers, IsDue, memory_reply}
 use Rattle.msthost.specs.declared.answer.End.{End}
 use Rattle.msthost.specs.declared.answer.End.TheVariants.{Between}
 use Rattle.msthost.specs.declared.answer.End.TheVariants as end
@@ -13,6 +13,10 @@ use Rattle.msthost.specs.declared.exit.Exit.TheVariants.{Done, DoorFailed, Memor
 abbrev pub most_bytes : ℕ
 most_bytes = 327681
 
+-- the bytes that came are all that there were, or just so many
+abbrev pub IsAll : ℕ → List ℕ → List ℕ → Type 0
+IsAll most came left = (left ≡ []) ⊎ (length came ≡ most)
+
 -- the open link brought these bytes
 pub record Brings (came : List ℕ) (old new : Links) : Type 0 where
   pub left : List ℕ
@@ -22,12 +26,9 @@ pub record Brings (came : List ℕ) (old new : Links) : Type 0 where
 
 -- the open link brought these bytes: all that it had, or just so many
 pub record BringsAll (most : ℕ) (came : List ℕ) (old new : Links) : Type 0 where
-  pub left : List ℕ
-  pub written : List ℕ
-  pub before : old.current ≡ Some (record { left = came ++ left; written = written })
-  pub after : new ≡ record old { current = Some (record { left = left; written = written }) }
+  pub brings : Brings came old new
   pub at_most : length came ≤ most
-  pub all : (left ≡ []) ⊎ (length came ≡ most)
+  pub all : IsAll most came brings.left
 
 -- the open link brought some bytes, and no more than so many
 pub record BringsSome (most : ℕ) (old new : Links) : Type 0 where
@@ -35,20 +36,13 @@ pub record BringsSome (most : ℕ) (old new : Links) : Type 0 where
   pub brings : Brings came old new
   pub at_most : length came ≤ most
 
--- the open link took these bytes
-pub record Takes (bytes : List ℕ) (old new : Links) : Type 0 where
-  pub left : List ℕ
-  pub written : List ℕ
-  pub before : old.current ≡ Some (record { left = left; written = written })
-  pub after : new ≡ record old { current = Some (record { left = left; written = written ++ bytes }) }
-
 -- the open link took the first part of these bytes, and not all
 pub record TakesPart (bytes : List ℕ) (old new : Links) : Type 0 where
   pub part : List ℕ
   pub rest : List ℕ
   pub whole : bytes ≡ part ++ rest
   pub lacks : 0 < length rest
-  pub takes : Takes part old new
+  pub takes : Writes part old new
 
 -- the next link brought bytes, kept some, took bytes, and was shut
 pub record Served (came left written : List ℕ) (old new : Links) : Type 0 where
@@ -56,103 +50,98 @@ pub record Served (came left written : List ℕ) (old new : Links) : Type 0 wher
   pub last : new.shut ≡ old.shut ++ record { left = left; written = written } ∷ []
   pub none_open : new.current ≡ None
 
--- no link is left
-pub record NoLink (old new : Links) : Type 0 where
-  pub none_left : old.coming ≡ []
-  pub same : new ≡ old
-
--- the next link's bytes, to its end or to the most that are read, are answered with this status
-pub record AnswersLink (types : Catalog) (status : ℕ) (old new : Links) : Type 0 where
-  pub came : List ℕ
-  pub left : List ℕ
-  pub written : List ℕ
-  pub served : Served came left written old new
-  pub at_most : length came ≤ most_bytes
-  pub all : (left ≡ []) ⊎ (length came ≡ most_bytes)
-  pub answers : Answers types came written status
-
--- serving ends with status 0 where no link is left, and with the status of the link that is answered
-abbrev pub EndsWith : Catalog → ℕ → Links → Links → Type 0
-EndsWith types status old new = (NoLink old new × (status ≡ 0)) ⊎ AnswersLink types status old new
-
--- what could have been written whole: nothing, the reply for want of memory, or the answer to the link's bytes
-abbrev pub IsAnswer : Catalog → List ℕ → List ℕ → List ℕ → Type 0
-IsAnswer types came left whole =
-    (whole ≡ []) ⊎ (whole ≡ memory_reply) ⊎ (((left ≡ []) ⊎ (length came ≡ most_bytes)) × ((status : ℕ) × Answers types came whole status))
-
--- the next link is broken off: what was written to it is nothing, or the beginning of an answer and not all of it
-pub record BreaksOff (types : Catalog) (old new : Links) : Type 0 where
-  pub came : List ℕ
-  pub left : List ℕ
-  pub written : List ℕ
-  pub unwritten : List ℕ
-  pub served : Served came left written old new
-  pub at_most : length came ≤ most_bytes
-  pub lacks : (written ≡ []) ⊎ (0 < length unwritten)
-  pub answer : IsAnswer types came left (written ++ unwritten)
-
--- a door fault leaves the links as they were, or breaks the next one off
-abbrev pub Faults : Catalog → Links → Links → Type 0
-Faults types old new = (new ≡ old) ⊎ BreaksOff types old new
-
--- want of memory leaves the links as they were, or the next one gets the fixed reply
-pub record RunsOut (old new : Links) : Type 0 where
-  pub came : List ℕ
-  pub left : List ℕ
-  pub served : Served came left memory_reply old new
-  pub at_most : length came ≤ most_bytes
-
-abbrev pub LacksMemory : Links → Links → Type 0
-LacksMemory old new = (new ≡ old) ⊎ RunsOut old new
-
 -- the open link brought bytes, kept some, and took bytes
 pub record Exchanges (came left written : List ℕ) (old new : Links) : Type 0 where
   pub earlier : List ℕ
   pub before : old.current ≡ Some (record { left = came ++ left; written = earlier })
   pub after : new ≡ record old { current = Some (record { left = left; written = earlier ++ written }) }
 
--- the open link's bytes are answered with this status
-pub record AnswersOpen (types : Catalog) (status : ℕ) (old new : Links) : Type 0 where
+-- no link is left
+pub record NoLink (old new : Links) : Type 0 where
+  pub none_left : old.coming ≡ []
+  pub same : new ≡ old
+
+-- What one link brought, kept and took, and what the links were and are: `Served` of the next link, from its beginning to its
+-- end, or `Exchanges` of the open one.
+abbrev pub Way : Type 1
+Way = List ℕ → List ℕ → List ℕ → Links → Links → Type 0
+
+-- the link's bytes, to its end or to the most that are read, are answered with this status
+pub record AnswersBy (way : Way) (types : Catalog) (status : ℕ) (old new : Links) : Type 0 where
   pub came : List ℕ
   pub left : List ℕ
   pub written : List ℕ
-  pub exchanges : Exchanges came left written old new
+  pub served : way came left written old new
   pub at_most : length came ≤ most_bytes
-  pub all : (left ≡ []) ⊎ (length came ≡ most_bytes)
+  pub all : IsAll most_bytes came left
   pub answers : Answers types came written status
 
--- the open link is broken off
-pub record BreaksOpen (types : Catalog) (old new : Links) : Type 0 where
+-- what could have been written whole: nothing; or, once all the bytes were read, the answer to them or in its place the
+-- reply for want of memory
+abbrev pub IsAnswer : Catalog → List ℕ → List ℕ → List ℕ → Type 0
+IsAnswer types came left whole =
+    (whole ≡ [])
+    ⊎ (IsAll most_bytes came left
+    × (((whole ≡ memory_reply) × IsDue came) ⊎ ((status : ℕ) × Answers types came whole status)))
+
+-- the link is broken off: what was written to it is nothing, or the beginning of an answer and not all of it
+pub record BreaksBy (way : Way) (types : Catalog) (old new : Links) : Type 0 where
   pub came : List ℕ
   pub left : List ℕ
   pub written : List ℕ
   pub unwritten : List ℕ
-  pub exchanges : Exchanges came left written old new
+  pub served : way came left written old new
   pub at_most : length came ≤ most_bytes
   pub lacks : (written ≡ []) ⊎ (0 < length unwritten)
   pub answer : IsAnswer types came left (written ++ unwritten)
 
--- the open link gets the fixed reply
-pub record RunsOutOpen (old new : Links) : Type 0 where
+-- the link's bytes, to its end or to the most that are read, are due a reply, and get the fixed one
+pub record RunsOutBy (way : Way) (old new : Links) : Type 0 where
   pub came : List ℕ
   pub left : List ℕ
-  pub exchanges : Exchanges came left memory_reply old new
+  pub served : way came left memory_reply old new
   pub at_most : length came ≤ most_bytes
+  pub all : IsAll most_bytes came left
+  pub due : IsDue came
 
--- what an exit says of the open link, and of a door that is served; for private clauses
+-- the next link is answered, is broken off, or gets the fixed reply
+abbrev pub AnswersLink : Catalog → ℕ → Links → Links → Type 0
+AnswersLink types status old new = AnswersBy Served types status old new
+
+abbrev pub BreaksOff : Catalog → Links → Links → Type 0
+BreaksOff types old new = BreaksBy Served types old new
+
+abbrev pub RunsOut : Links → Links → Type 0
+RunsOut old new = RunsOutBy Served old new
+
+-- serving ends with status 0 where no link is left, and with the status of the link that is answered
+abbrev pub EndsWith : Catalog → ℕ → Links → Links → Type 0
+EndsWith types status old new = (NoLink old new × (status ≡ 0)) ⊎ AnswersLink types status old new
+
+-- a door fault leaves the links as they were, or breaks the next one off
+abbrev pub Faults : Catalog → Links → Links → Type 0
+Faults types old new = (new ≡ old) ⊎ BreaksOff types old new
+
+-- what an exit says of the open link, and of the links of a door that was attached; for private clauses
 abbrev pub ExitsOpen : Catalog → Exit → Links → Links → Type 0
-ExitsOpen types Done = AnswersOpen types 0
-ExitsOpen types Inside = AnswersOpen types 9
-ExitsOpen types DoorFailed = BreaksOpen types
-ExitsOpen types Memory = RunsOutOpen
-ExitsOpen types _ = λ old new. ⊥
+ExitsOpen types Done old new = AnswersBy Exchanges types 0 old new
+ExitsOpen types Inside old new = AnswersBy Exchanges types 9 old new
+ExitsOpen types DoorFailed old new = BreaksBy Exchanges types old new
+ExitsOpen types Memory old new = RunsOutBy Exchanges old new
+ExitsOpen types _ old new = ⊥
 
 abbrev pub Exits : Catalog → Exit → Links → Links → Type 0
-Exits types Done = EndsWith types 0
-Exits types Inside = EndsWith types 9
-Exits types DoorFailed = Faults types
-Exits types Memory = LacksMemory
-Exits types _ = λ old new. ⊥
+Exits types Done old new = EndsWith types 0 old new
+Exits types Inside old new = EndsWith types 9 old new
+Exits types DoorFailed old new = Faults types old new
+Exits types Memory old new = RunsOut old new
+Exits types _ old new = ⊥
+
+-- what an exit says of a door that is served: for want of memory nothing of it changed (U), or the next link gets the fixed
+-- reply; for private clauses
+abbrev pub ExitsDoor : Catalog → Exit → Type 0 → Option Links → Option Links → Type 0
+ExitsDoor types Memory U before after = U ⊎ BothTold RunsOut before after
+ExitsDoor types exit U before after = BothTold (Exits types exit) before after
 
 -- the same once the link is shut
 pub record ShutsAfter (types : Catalog) (exit : Exit) (old new : Links) : Type 0 where
@@ -168,9 +157,9 @@ exit_of end.Inside = Inside
 -- the open link took the bytes, and the exit is this one; or the door failed at a part of them
 abbrev pub WritesBy : List ℕ → Exit → Exit → Links → Links → Type 0
 WritesBy bytes whole DoorFailed old new = TakesPart bytes old new
-WritesBy bytes whole exit old new = (exit ≡ whole) × Takes bytes old new
+WritesBy bytes whole exit old new = (exit ≡ whole) × Writes bytes old new
 
--- a fact where the door failed
+-- a fact where the door failed; this and what follows are for private clauses
 abbrev pub IfDoorFailed : Exit → Type 0 → Type 0
 IfDoorFailed DoorFailed P = P
 IfDoorFailed _ P = Unit {0}
@@ -182,3 +171,9 @@ IsOfLink Inside = Unit {0}
 IsOfLink DoorFailed = Unit {0}
 IsOfLink Memory = Unit {0}
 IsOfLink _ = ⊥
+
+-- an exit that tells of a link that was looked for and, where there was one, answered
+abbrev pub IsServed : Exit → Type 0
+IsServed Done = Unit {0}
+IsServed Inside = Unit {0}
+IsServed _ = ⊥

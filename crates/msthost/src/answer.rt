@@ -1,6 +1,6 @@
 //! From the bytes of a link to the bytes that answer them.
-ghost use Rattle.std.specs.Prelude.{◌≡◌, ◌<◌, [], ◌∷◌, length, Bool, true, false, Some, IfOk, IsSome, codes, if◌then◌else◌};
-ghost use Rattle.snap_core.specs.Value.{Value, text, IsPlain};
+ghost use Rattle.std.specs.Prelude.{◌≡◌, ◌<◌, [], ◌∷◌, length, true, false, Some, IfOk, IfErr, IsSome, codes, if◌then◌else◌};
+ghost use Rattle.snap_core.specs.Value.{text, IsPlain};
 ghost use Rattle.snap_core.specs.View.{view};
 ghost use Rattle.pointer_core.specs.Path.{printed};
 ghost use Rattle.pointer_core.specs.Rule.{rule_name};
@@ -31,13 +31,18 @@ pub enum End {
 /// What answers the bytes of a link.
 #[derive(Debug, Drop)]
 pub struct Answer {
+    /// What is to be written to the link.
     pub bytes: Bytes,
+    /// How the bytes that came end.
     pub end: End,
 }
 
-/// The answer to all the bytes that a link brought.
+/// The answer to all the bytes that a link brought. An error is want of memory, which comes only where
+/// a reply is due: not to an empty link, and not inside a request.
 pub fn answer_to(alloc: Global, types: &Types, came: &[u8]) -> Result<Answer, AllocError>
-    ensures { IfOk result (λ answer. link.Answers types.now came.now answer.bytes (link.end_status answer.end)) }
+    ensures answer { IfOk result (λ answer.
+        link.Answers types.now came.now answer.bytes (link.end_status answer.end)) }
+    ensures memory { IfErr result (λ _. link.IsDue came.now) }
 {
     if came.is_empty() {
         return Ok(silence(alloc, End::Between));
@@ -73,7 +78,8 @@ fn found_answer(
     is_last: bool,
 ) -> Result<Answer, AllocError>
     ensures { IfOk result (λ answer. (answer.end ≡ End.Between)
-        × (answer.bytes ≡ (if is_last then link.reading_reply types.now (reading body.now) else link.rule_reply true Rule.Head))) }
+        × (answer.bytes ≡ (if is_last then link.reading_reply types.now (reading body.now)
+        else link.rule_reply true Rule.Head))) }
 {
     if !is_last {
         return head_answer(alloc);
@@ -87,7 +93,8 @@ fn found_answer(
 
 // The answer to what isn't a request that is taken.
 fn head_answer(alloc: Global) -> Result<Answer, AllocError>
-    ensures { IfOk result (λ answer. (answer.end ≡ End.Between) × (answer.bytes ≡ link.rule_reply true Rule.Head)) }
+    ensures { IfOk result (λ answer. (answer.end ≡ End.Between)
+        × (answer.bytes ≡ link.rule_reply true Rule.Head)) }
 {
     let bytes = rule_reply(alloc, true, &Rule::Head)?;
     Ok(Answer {
@@ -117,7 +124,8 @@ fn body_reply(alloc: Global, types: &Types, body: &[u8]) -> Result<Bytes, AllocE
 // The reply to a value: what the root's type makes of it, or why it makes nothing.
 fn value_reply(alloc: Global, types: &Types, given: &Snap) -> Result<Bytes, AllocError>
     requires { IsPlain (view given.now) }
-    ensures { IfOk result (λ bytes. bytes ≡ link.making_reply (making types.now (link.root_type types.now) (Some (view given.now)))) }
+    ensures { IfOk result (λ bytes. bytes ≡ link.making_reply
+        (making types.now (link.root_type types.now) (Some (view given.now)))) }
 {
     match make(alloc, types, root_type(types), Some(given)) {
         Ok(made) => made_reply(alloc, made),
@@ -129,7 +137,7 @@ fn value_reply(alloc: Global, types: &Types, given: &Snap) -> Result<Bytes, Allo
 // The type that is the root's model.
 fn root_type(types: &Types) -> TypeNo
     ensures known { result.0 < length types.now.table.shapes }
-    ensures same { (v : Value) → making types.now result.0 (Some v) ≡ making types.now (link.root_type types.now) (Some v) }
+    ensures own { result.0 ≡ link.root_type types.now }
 {
     types.model_type(types.root())
 }
@@ -179,23 +187,25 @@ fn rule_body(alloc: Global, rule: &Rule) -> Result<Snap, AllocError>
 }
 
 fn place_body(alloc: Global, refusal: &Refusal) -> Result<Snap, AllocError>
-    ensures { IfOk result (λ body. view body ≡ link.record_of ((codes "error", text (rule_name refusal.now.rule))
+    ensures { IfOk result (λ body. view body ≡ link.record_of
+        ((codes "error", text (rule_name refusal.now.rule))
         ∷ (codes "path", text (printed refusal.now.path)) ∷ [])) }
 {
-    let path = refusal.path.print(alloc)?;
+    let name = Txt::copy(alloc, refusal.rule.name())?;
+    let path = refusal.path.print()?;
     let mut fields = Parts::new(alloc);
-    fields.push(text_field(alloc, "error", refusal.rule.name())?)?;
-    fields.push(text_field(alloc, "path", path.text())?)?;
+    fields.push(field(alloc, "error", Snap::Text(name))?)?;
+    fields.push(field(alloc, "path", Snap::Text(path))?)?;
     Ok(Snap::Dict(fields))
 }
 
-fn text_field(alloc: Global, key: &str, shown: &str) -> Result<Field, AllocError>
+fn field(alloc: Global, key: &str, value: Snap) -> Result<Field, AllocError>
     ensures key { IfOk result (λ field. field.key ≡ key.now) }
-    ensures value { IfOk result (λ field. view field.value ≡ text shown.now) }
+    ensures value { IfOk result (λ field. field.value ≡ value) }
 {
     Ok(Field {
         key: Txt::copy(alloc, key)?,
-        value: Snap::Text(Txt::copy(alloc, shown)?),
+        value,
     })
 }
 
@@ -204,9 +214,6 @@ fn only(alloc: Global, key: &str, value: Snap) -> Result<Snap, AllocError>
     ensures { IfOk result (λ made. view made ≡ link.only key.now (view value)) }
 {
     let mut fields = Parts::new(alloc);
-    fields.push(Field {
-        key: Txt::copy(alloc, key)?,
-        value,
-    })?;
+    fields.push(field(alloc, key, value)?)?;
     Ok(Snap::Dict(fields))
 }

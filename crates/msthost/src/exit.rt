@@ -7,7 +7,7 @@ use snap_core::Txt;
 /// How the program ends.
 #[derive(Debug, Drop)]
 pub enum Exit {
-    /// The link was answered, or there was none.
+    /// The link was answered, it brought nothing, or there was none.
     Done,
     /// The schema file is a schema.
     Checked,

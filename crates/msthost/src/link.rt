@@ -7,14 +7,17 @@ ghost use Rattle.msthost.specs.Serving as serving;
 use edge_core::{Door, DoorFault};
 
 /// Reads what the open link brings to the start of `room`, to the link's end or until the room is
-/// full, and answers how many bytes came.
+/// full, and answers how many bytes came. An error is the door's; some bytes may have come before it.
 pub fn read_all<D: Door>(door: &mut D, room: &mut [u8]) -> Result<usize, DoorFault>
     requires open { IsTrue (D.is_open door.old) }
     ensures in_room { IfOk result (λ n. n ≤ length room.new) }
-    ensures came { IfOk result (λ n. BothTold (serving.BringsAll (length room.new) (take n room.new)) (D.links door.old) (D.links door.new)) }
+    ensures came { IfOk result (λ n. BothTold (serving.BringsAll (length room.new) (take n room.new))
+        (D.links door.old) (D.links door.new)) }
     ensures failed { OnErr result (HasRisen (D.fault_count door.old) (D.fault_count door.new)) }
-    ensures some { OnErr result (BothTold (serving.BringsSome (length room.new)) (D.links door.old) (D.links door.new)) }
+    ensures some { OnErr result (BothTold (serving.BringsSome (length room.new))
+        (D.links door.old) (D.links door.new)) }
     ensures same_open { D.is_open door.new ≡ D.is_open door.old }
+    ensures same_attached { D.is_attached door.new ≡ D.is_attached door.old }
     ensures count { D.fault_count door.old ≤ D.fault_count door.new }
 {
     let mut filled = 0;
@@ -35,23 +38,28 @@ fn read_more<D: Door>(door: &mut D, room: &mut [u8], filled: usize) -> Result<us
     ensures in_room { IfOk result (λ n. n ≤ length room.new) }
     ensures more { IfOk result (λ n. filled ≤ n) }
     ensures kept { take filled room.new ≡ take filled room.old }
-    ensures came { IfOk result (λ n. BothTold (Reads (take (n - filled) (drop filled room.new))) (D.links door.old) (D.links door.new)) }
+    ensures came { IfOk result (λ n. BothTold (Reads (take (n - filled) (drop filled room.new)))
+        (D.links door.old) (D.links door.new)) }
     ensures failed { OnErr result (HasRisen (D.fault_count door.old) (D.fault_count door.new)) }
     ensures err { OnErr result (D.links door.new ≡ D.links door.old) }
     ensures same_open { D.is_open door.new ≡ D.is_open door.old }
+    ensures same_attached { D.is_attached door.new ≡ D.is_attached door.old }
     ensures count { D.fault_count door.old ≤ D.fault_count door.new }
 {
     let n = door.read(&mut room[filled..])?;
     Ok(filled + n)
 }
 
-/// Writes all the bytes to the open link.
+/// Writes all the bytes to the open link. An error is the door's; a first part of the bytes, and not
+/// all of them, was written before it.
 pub fn write_all<D: Door>(door: &mut D, bytes: &[u8]) -> Result<(), DoorFault>
     requires open { IsTrue (D.is_open door.old) }
-    ensures took { OnOk result (BothTold (serving.Takes bytes.now) (D.links door.old) (D.links door.new)) }
+    ensures took { OnOk result (BothTold (Writes bytes.now) (D.links door.old) (D.links door.new)) }
     ensures failed { OnErr result (HasRisen (D.fault_count door.old) (D.fault_count door.new)) }
-    ensures part { OnErr result (BothTold (serving.TakesPart bytes.now) (D.links door.old) (D.links door.new)) }
+    ensures part { OnErr result (BothTold (serving.TakesPart bytes.now)
+        (D.links door.old) (D.links door.new)) }
     ensures same_open { D.is_open door.new ≡ D.is_open door.old }
+    ensures same_attached { D.is_attached door.new ≡ D.is_attached door.old }
     ensures count { D.fault_count door.old ≤ D.fault_count door.new }
 {
     let mut written = 0;
@@ -67,10 +75,12 @@ fn write_more<D: Door>(door: &mut D, bytes: &[u8], written: usize) -> Result<usi
     requires some_left { written < length bytes.now }
     ensures more { IfOk result (λ n. written < n) }
     ensures within { IfOk result (λ n. n ≤ length bytes.now) }
-    ensures took { IfOk result (λ n. BothTold (Writes (take (n - written) (drop written bytes.now))) (D.links door.old) (D.links door.new)) }
+    ensures took { IfOk result (λ n. BothTold (Writes (take (n - written) (drop written bytes.now)))
+        (D.links door.old) (D.links door.new)) }
     ensures failed { OnErr result (HasRisen (D.fault_count door.old) (D.fault_count door.new)) }
     ensures err { OnErr result (D.links door.new ≡ D.links door.old) }
     ensures same_open { D.is_open door.new ≡ D.is_open door.old }
+    ensures same_attached { D.is_attached door.new ≡ D.is_attached door.old }
     ensures count { D.fault_count door.old ≤ D.fault_count door.new }
 {
     let n = door.write(&bytes[written..])?;

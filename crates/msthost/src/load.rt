@@ -1,6 +1,5 @@
 //! From the name of a schema file to the schema.
 ghost use Rattle.std.specs.Prelude.{◌≡◌, ◌≤◌};
-ghost use Rattle.pointer_core.specs.Path.{printed};
 ghost use Rattle.msthost.specs.Run as runs;
 
 use crate::exit::Exit;
@@ -15,7 +14,8 @@ const MOST_FILE_BYTES: usize = 262_144;
 
 /// Reads a schema file, or says how the program ends without one.
 pub fn load<W: World>(alloc: Global, world: &mut W, name: &str) -> Result<Schema, Exit>
-    ensures loads { runs.Loads (W.files world.old) name.now (W.fault_count world.old) (W.fault_count world.new) result }
+    ensures loads { runs.Loads (W.files world.old) name.now
+        (W.fault_count world.old) (W.fault_count world.new) result }
     ensures files { W.files world.new ≡ W.files world.old }
     ensures out { W.out world.new ≡ W.out world.old }
     ensures err { W.err world.new ≡ W.err world.old }
@@ -24,8 +24,7 @@ pub fn load<W: World>(alloc: Global, world: &mut W, name: &str) -> Result<Schema
     match world.read_file(alloc, name, MOST_FILE_BYTES) {
         Ok(file) => schema_in(alloc, file.as_slice()),
         Err(EdgeError::Memory) => Err(Exit::Memory),
-        Err(EdgeError::Failed) => Err(Exit::Unread),
-        Err(EdgeError::TooLong) => Err(Exit::Unread),
+        Err(EdgeError::Failed | EdgeError::TooLong) => Err(Exit::Unread),
     }
 }
 
@@ -37,15 +36,15 @@ fn schema_in(alloc: Global, file: &[u8]) -> Result<Schema, Exit>
         Ok(schema) => Ok(schema),
         Err(SchemaError::Memory) => Err(Exit::Memory),
         Err(SchemaError::Syntax) => Err(Exit::Syntax),
-        Err(SchemaError::Refused { pointer, rule }) => Err(refusal(alloc, &pointer, rule)),
+        Err(SchemaError::Refused { pointer, rule }) => Err(refusal(&pointer, rule)),
     }
 }
 
 // The end at a fault of a schema file.
-fn refusal(alloc: Global, pointer: &Pointer, rule: SchemaRule) -> Exit
+fn refusal(pointer: &Pointer, rule: SchemaRule) -> Exit
     ensures { runs.IsRefusal pointer.now rule result }
 {
-    match pointer.print(alloc) {
+    match pointer.print() {
         Ok(printed) => Exit::Refused {
             pointer: printed,
             rule,

@@ -44,7 +44,7 @@ fn given_words<R: Env + AllocGlobal>(rt: &R) -> Result<Parts<Txt>, Exit> {
 fn copied(alloc: Global, args: env::Args) -> Result<Parts<Txt>, AllocError> {
     let mut words = Parts::new(alloc);
     for word in args.skip(1) {
-        words.push(Txt::copy(alloc, word.as_str())?)?;
+        words.push(Txt::from_string(word))?;
     }
     Ok(words)
 }

@@ -18,7 +18,7 @@ const USAGE: &str =
     "usage: msthost check SCHEMA | run SCHEMA [--db FILE] | serve SCHEMA --port N --links N [--db FILE] | demo N";
 
 /// Tells how the run of a command ended, and answers the exit status: the exit's own, or 10 where
-/// it couldn't be told.
+/// there was something to tell and it couldn't be told.
 pub fn report<W: World>(world: &mut W, command: Option<Command>, exit: &Exit) -> u8
     ensures reports { reports.Reports (option_map seen command.entry) exit.now result
         (record { out = W.out world.old; err = W.err world.old; faults = W.fault_count world.old })
@@ -34,10 +34,14 @@ pub fn report<W: World>(world: &mut W, command: Option<Command>, exit: &Exit) ->
 
 // Writes what an exit tells.
 fn tell<W: World>(world: &mut W, command: Option<Command>, exit: &Exit) -> Result<(), EdgeError>
-    ensures err { OnOk result (reports.Gets (told_err (option_map seen command.entry) exit.now) (W.err world.old) (W.err world.new)) }
+    ensures err { OnOk result (reports.Gets (told_err (option_map seen command.entry) exit.now)
+        (W.err world.old) (W.err world.new)) }
     ensures out { OnOk result (reports.Gets (told_out exit.now) (W.out world.old) (W.out world.new)) }
-    ensures err_part { OnErr result (reports.GetsPart (told_err (option_map seen command.entry) exit.now) (W.err world.old) (W.err world.new)) }
-    ensures out_part { OnErr result (reports.GetsPart (told_out exit.now) (W.out world.old) (W.out world.new)) }
+    ensures due { OnErr result (reports.IsTold exit.now) }
+    ensures err_part { OnErr result (reports.GetsPart (told_err (option_map seen command.entry) exit.now)
+        (W.err world.old) (W.err world.new)) }
+    ensures out_part { OnErr result (reports.GetsPart (told_out exit.now)
+        (W.out world.old) (W.out world.new)) }
     ensures failed { OnErr result (HasRisen (W.fault_count world.old) (W.fault_count world.new)) }
     ensures files { W.files world.new ≡ W.files world.old }
     ensures count { W.fault_count world.old ≤ W.fault_count world.new }
@@ -67,8 +71,12 @@ fn file_named(command: Option<Command<'_>>) -> &str
 
 // Writes the message of a schema's fault.
 fn say_fault<'a, W: World>(world: &mut W, pointer: &'a str, rule: &'a str) -> Result<(), EdgeError>
-    ensures err { OnOk result (reports.Gets (codes "schema " ++ pointer.now ++ codes " " ++ rule.now ++ codes "\n") (W.err world.old) (W.err world.new)) }
-    ensures part { OnErr result (reports.GetsPart (codes "schema " ++ pointer.now ++ codes " " ++ rule.now ++ codes "\n") (W.err world.old) (W.err world.new)) }
+    ensures err { OnOk result (reports.Gets
+        (codes "schema " ++ pointer.now ++ codes " " ++ rule.now ++ codes "\n")
+        (W.err world.old) (W.err world.new)) }
+    ensures part { OnErr result (reports.GetsPart
+        (codes "schema " ++ pointer.now ++ codes " " ++ rule.now ++ codes "\n")
+        (W.err world.old) (W.err world.new)) }
     ensures failed { OnErr result (HasRisen (W.fault_count world.old) (W.fault_count world.new)) }
     ensures out { W.out world.new ≡ W.out world.old }
     ensures files { W.files world.new ≡ W.files world.old }
@@ -79,8 +87,10 @@ fn say_fault<'a, W: World>(world: &mut W, pointer: &'a str, rule: &'a str) -> Re
 
 // Writes a line of these pieces to standard error.
 fn say<W: World>(world: &mut W, pieces: &[&str]) -> Result<(), EdgeError>
-    ensures err { OnOk result (reports.Gets (flat_map (λ piece. piece.now) pieces.now ++ codes "\n") (W.err world.old) (W.err world.new)) }
-    ensures part { OnErr result (reports.GetsPart (flat_map (λ piece. piece.now) pieces.now ++ codes "\n") (W.err world.old) (W.err world.new)) }
+    ensures err { OnOk result (reports.Gets (flat_map (λ piece. piece.now) pieces.now ++ codes "\n")
+        (W.err world.old) (W.err world.new)) }
+    ensures part { OnErr result (reports.GetsPart (flat_map (λ piece. piece.now) pieces.now ++ codes "\n")
+        (W.err world.old) (W.err world.new)) }
     ensures failed { OnErr result (HasRisen (W.fault_count world.old) (W.fault_count world.new)) }
     ensures out { W.out world.new ≡ W.out world.old }
     ensures files { W.files world.new ≡ W.files world.old }

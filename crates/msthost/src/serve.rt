@@ -1,7 +1,7 @@
 //! One link, from its first byte to its end.
-ghost use Rattle.std.specs.Prelude.{◌≡◌, ◌≤◌, ◌<◌, false, true, length, IfOk, IsTrue, option_map};
+ghost use Rattle.std.specs.Prelude.{◌≡◌, ◌≤◌, false, length, IfOk, IsTrue};
 ghost use Rattle.edge_core.specs.Faults.{HasRisen};
-ghost use Rattle.edge_core.specs.Door.{BothTold, Accepts, FindsNone};
+ghost use Rattle.edge_core.specs.Door.{BothTold};
 ghost use Rattle.msthost.specs.Link.{memory_reply};
 ghost use Rattle.msthost.specs.Serving as serving;
 ghost use Rattle.msthost.specs.declared.serve.TheConstants.{MOST_BYTES};
@@ -21,12 +21,16 @@ pub const MOST_BYTES: usize = 327_681;
 const MEMORY_REPLY: &[u8] =
     b"HTTP/1.1 500 Internal Server Error\r\nContent-Type: application/json\r\nContent-Length: 18\r\nConnection: close\r\n\r\n{\"error\":\"memory\"}";
 
-/// Serves the door's one link on standard input and output.
+/// Serves the next link of a door at standard input and output, if there is one, and answers how the
+/// program ends.
 pub fn serve<D: Door>(alloc: Global, types: &Types, door: &mut D) -> Exit
     requires none_open { D.is_open door.old ≡ false }
-    ensures links { BothTold (serving.Exits types.now result) (D.links door.old) (D.links door.new) }
+    ensures exits { serving.ExitsDoor types.now result (door.new ≡ door.old)
+        (D.links door.old) (D.links door.new) }
     ensures exit { serving.IsOfLink result }
-    ensures failed { serving.IfDoorFailed result (HasRisen (D.fault_count door.old) (D.fault_count door.new)) }
+    ensures failed { serving.IfDoorFailed result
+        (HasRisen (D.fault_count door.old) (D.fault_count door.new)) }
+    ensures attached { serving.IsServed result → IsTrue (D.is_attached door.new) }
     ensures none_open { D.is_open door.new ≡ false }
     ensures count { D.fault_count door.old ≤ D.fault_count door.new }
 {
@@ -53,7 +57,9 @@ fn serve_attached<D: Door>(alloc: Global, types: &Types, door: &mut D, room: &mu
     requires room { length room.old ≡ MOST_BYTES }
     ensures links { BothTold (serving.Exits types.now result) (D.links door.old) (D.links door.new) }
     ensures exit { serving.IsOfLink result }
-    ensures failed { serving.IfDoorFailed result (HasRisen (D.fault_count door.old) (D.fault_count door.new)) }
+    ensures failed { serving.IfDoorFailed result
+        (HasRisen (D.fault_count door.old) (D.fault_count door.new)) }
+    ensures attached { IsTrue (D.is_attached door.new) }
     ensures none_open { D.is_open door.new ≡ false }
     ensures count { D.fault_count door.old ≤ D.fault_count door.new }
 {
@@ -70,7 +76,9 @@ fn serve_next<D: Door>(alloc: Global, types: &Types, door: &mut D, room: &mut [u
     requires room { length room.old ≡ MOST_BYTES }
     ensures links { BothTold (serving.ShutsAfter types.now result) (D.links door.old) (D.links door.new) }
     ensures exit { serving.IsOfLink result }
-    ensures failed { serving.IfDoorFailed result (HasRisen (D.fault_count door.old) (D.fault_count door.new)) }
+    ensures failed { serving.IfDoorFailed result
+        (HasRisen (D.fault_count door.old) (D.fault_count door.new)) }
+    ensures same_attached { D.is_attached door.new ≡ D.is_attached door.old }
     ensures none_open { D.is_open door.new ≡ false }
     ensures count { D.fault_count door.old ≤ D.fault_count door.new }
 {
@@ -85,8 +93,10 @@ fn serve_open<D: Door>(alloc: Global, types: &Types, door: &mut D, room: &mut [u
     requires room { length room.old ≡ MOST_BYTES }
     ensures links { BothTold (serving.ExitsOpen types.now result) (D.links door.old) (D.links door.new) }
     ensures exit { serving.IsOfLink result }
-    ensures failed { serving.IfDoorFailed result (HasRisen (D.fault_count door.old) (D.fault_count door.new)) }
+    ensures failed { serving.IfDoorFailed result
+        (HasRisen (D.fault_count door.old) (D.fault_count door.new)) }
     ensures same_open { D.is_open door.new ≡ D.is_open door.old }
+    ensures same_attached { D.is_attached door.new ≡ D.is_attached door.old }
     ensures count { D.fault_count door.old ≤ D.fault_count door.new }
 {
     let Ok(n) = read_all(door, room) else {
@@ -101,10 +111,13 @@ fn serve_open<D: Door>(alloc: Global, types: &Types, door: &mut D, room: &mut [u
 // Writes the answer to a link's bytes.
 fn write_answer<D: Door>(door: &mut D, answer: &Answer) -> Exit
     requires open { IsTrue (D.is_open door.old) }
-    ensures links { BothTold (serving.WritesBy answer.now.bytes (serving.exit_of answer.now.end) result) (D.links door.old) (D.links door.new) }
+    ensures links { BothTold (serving.WritesBy answer.now.bytes (serving.exit_of answer.now.end) result)
+        (D.links door.old) (D.links door.new) }
     ensures exit { serving.IsOfLink result }
-    ensures failed { serving.IfDoorFailed result (HasRisen (D.fault_count door.old) (D.fault_count door.new)) }
+    ensures failed { serving.IfDoorFailed result
+        (HasRisen (D.fault_count door.old) (D.fault_count door.new)) }
     ensures same_open { D.is_open door.new ≡ D.is_open door.old }
+    ensures same_attached { D.is_attached door.new ≡ D.is_attached door.old }
     ensures count { D.fault_count door.old ≤ D.fault_count door.new }
 {
     if write_all(door, answer.bytes.as_slice()).is_err() {
@@ -116,13 +129,16 @@ fn write_answer<D: Door>(door: &mut D, answer: &Answer) -> Exit
     }
 }
 
-// Writes the fixed reply.
+// Writes the fixed reply for want of memory.
 fn write_memory_reply<D: Door>(door: &mut D) -> Exit
     requires open { IsTrue (D.is_open door.old) }
-    ensures links { BothTold (serving.WritesBy memory_reply Exit.Memory result) (D.links door.old) (D.links door.new) }
+    ensures links { BothTold (serving.WritesBy memory_reply Exit.Memory result)
+        (D.links door.old) (D.links door.new) }
     ensures exit { serving.IsOfLink result }
-    ensures failed { serving.IfDoorFailed result (HasRisen (D.fault_count door.old) (D.fault_count door.new)) }
+    ensures failed { serving.IfDoorFailed result
+        (HasRisen (D.fault_count door.old) (D.fault_count door.new)) }
     ensures same_open { D.is_open door.new ≡ D.is_open door.old }
+    ensures same_attached { D.is_attached door.new ≡ D.is_attached door.old }
     ensures count { D.fault_count door.old ≤ D.fault_count door.new }
 {
     match write_all(door, MEMORY_REPLY) {

@@ -2,8 +2,10 @@
 mod exits;
 mod links;
 mod shelf;
+mod slow_door;
 
 use crate::host::host;
+use crate::tests::slow_door::SlowDoor;
 use edge_core::{Calls, Files, Inputs, MemoryDoor, MemoryWorld};
 use list_core::Parts;
 use snap_core::{Bytes, Txt};
@@ -12,7 +14,9 @@ use std::alloc::{AllocError, Global};
 const SCHEMA: &[u8] =
     b"{\"host\":1,\"root\":\"A\",\"types\":{\"A\":{\"model\":{\"properties\":{\"b\":\"boolean\",\"n\":\"integer\",\"s\":\"string\"}}}}}";
 
-// What a run is given. The call of that number fails, and none does where it is 0.
+// What a run is given. A read of a link takes at most `cut` bytes, a writing at most `piece`, and
+// `space` is the room for all that is written to a link. The call of that number fails, and none does
+// where it is 0.
 #[derive(Clone, Copy)]
 struct Run<'a> {
     words: &'a str,
@@ -20,6 +24,7 @@ struct Run<'a> {
     failing_world_call: u64,
     inputs: &'a [&'a [u8]],
     cut: usize,
+    piece: usize,
     space: usize,
     failing_door_call: u64,
 }
@@ -50,7 +55,8 @@ fn world(alloc: Global, schema: &[u8], failing: u64) -> Result<MemoryWorld, Allo
     MemoryWorld::new(alloc, files, 200, Calls::from_slice(alloc, &[failing])?)
 }
 
-// Whether a run has this exit status, and leaves this written to the first link and to standard error.
+// Whether a run has this exit status, and leaves this written to the first link and to standard error,
+// and nothing to the second.
 fn ends(
     alloc: Global,
     run: Run,
@@ -62,10 +68,14 @@ fn ends(
     let mut world = world(alloc, run.schema, run.failing_world_call)?;
     let inputs = inputs(alloc, run.inputs)?;
     let fails = Calls::from_slice(alloc, &[run.failing_door_call])?;
-    let mut door = MemoryDoor::new(alloc, inputs, run.cut.max(1), run.space, fails)?;
+    let mut door = SlowDoor {
+        door: MemoryDoor::new(alloc, inputs, run.cut.max(1), run.space, fails)?,
+        most: run.piece,
+    };
     let code = host(alloc, words.as_slice(), &mut world, &mut door);
     let told = world.err() == err && world.out().is_empty();
-    Ok(code == status && door.written(0) == Some(written) && told)
+    let second = door.door.written(1).unwrap_or(b"");
+    Ok(code == status && door.door.written(0) == Some(written) && second.is_empty() && told)
 }
 
 // The run of the program on these links.
@@ -76,6 +86,7 @@ fn served<'a>(inputs: &'a [&'a [u8]]) -> Run<'a> {
         failing_world_call: 0,
         inputs,
         cut: 1000,
+        piece: 1000,
         space: 1000,
         failing_door_call: 0,
     }

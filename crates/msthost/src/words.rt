@@ -1,5 +1,5 @@
 //! The command line.
-ghost use Rattle.std.specs.Prelude.{◌≡◌, ◌↔◌, Some, option_map};
+ghost use Rattle.std.specs.Prelude.{◌≡◌, option_map};
 ghost use Rattle.msthost.specs.Words as specs;
 
 use snap_core::Txt;
@@ -19,8 +19,7 @@ impl<'a> Command<'a> {
         ensures { result.now ≡ specs.name_in (specs.seen self.entry) }
     {
         match self {
-            Command::Check(name) => name,
-            Command::Run(name) => name,
+            Command::Check(name) | Command::Run(name) => name,
         }
     }
 }

@@ -4,7 +4,7 @@ use crate::host::host;
 use crate::report::report;
 use crate::tests::{SCHEMA, spaces, words, world};
 use crate::words::Command;
-use edge_core::{Calls, Inputs, MemoryDoor, MemoryWorld};
+use edge_core::{Calls, Inputs, MemoryDoor};
 use std::alloc::{AllocError, Global};
 use std::test::Fail;
 

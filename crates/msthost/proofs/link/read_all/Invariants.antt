@@ -9,6 +9,7 @@ invariant-loop-filled g l =
     (l.filled ≤ length l.room)
     × BothTold (Brings (take l.filled l.room)) (g.D.Door.links l.fn.door) (g.D.Door.links l.door)
     × (g.D.Door.is_open l.door ≡ g.D.Door.is_open l.fn.door)
+    × (g.D.Door.is_attached l.door ≡ g.D.Door.is_attached l.fn.door)
     × (g.D.Door.fault_count l.fn.door ≤ g.D.Door.fault_count l.door)
 
 abbrev pub decreases-loop-filled : goal.decreases-loop-filled

@@ -7,7 +7,7 @@ pub loop-written-preserved : goal.loop-written-preserved
 loop-written-preserved g c =
     let before = c.loop-written.invariant in
     let written = c.in_ok-written.ensures in
-    (written.within, write_on _ _ _ _ _ _ (omega (arith, written.more)) before.1 written.took, search rules, search rules)
+    (written.within, write_on _ _ _ _ _ _ (omega (arith, written.more)) before.1 written.took, search rules, search rules, search rules)
 
 pub returns-in_err-written-clause-part : goal.returns-in_err-written-clause-part
 returns-in_err-written-clause-part g c =

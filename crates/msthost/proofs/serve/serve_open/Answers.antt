@@ -12,7 +12,7 @@ returns-in-Ok-answer_to-clause-links g c =
     (take c.in-Ok.n c.read_all.new.room) c.in-Ok-answer_to.answer.bytes c.in-Ok-answer_to.answer.end c.write_answer.result
     (subst (λ n. BothTold (BringsAll n (take c.in-Ok.n c.read_all.new.room)) (links c.args.door.now) (links c.read_all.new.door))
     (c.read_all.auto.room ∙ c.requires.room) c.in-Ok.ensures.came)
-    c.in-Ok-answer_to.ensures c.write_answer.ensures.links
+    c.in-Ok-answer_to.ensures.answer c.write_answer.ensures.links
 
 pub returns-in-Err-clause-links : goal.returns-in-Err-clause-links
 returns-in-Err-clause-links g c =
@@ -21,4 +21,4 @@ returns-in-Err-clause-links g c =
     (take c.in-Ok.n c.read_all.new.room) c.write_memory_reply.result
     (subst (λ n. BothTold (BringsAll n (take c.in-Ok.n c.read_all.new.room)) (links c.args.door.now) (links c.read_all.new.door))
     (c.read_all.auto.room ∙ c.requires.room) c.in-Ok.ensures.came)
-    c.write_memory_reply.ensures.links
+    c.in-Err.ensures.memory c.write_memory_reply.ensures.links
