@@ -1,0 +1,156 @@
+use super::Row;
+
+pub const INTEGERS_ARE_BOUNDED: &[Row] = &[
+    (
+        r#""T":{"refinement":["integer",{"min":3,"max":5}]}"#,
+        "2",
+        "refine",
+    ),
+    (
+        r#""T":{"refinement":["integer",{"min":3,"max":5}]}"#,
+        "3",
+        "3",
+    ),
+    (
+        r#""T":{"refinement":["integer",{"min":3,"max":5}]}"#,
+        "5",
+        "5",
+    ),
+    (
+        r#""T":{"refinement":["integer",{"min":3,"max":5}]}"#,
+        "6",
+        "refine",
+    ),
+    (
+        r#""T":{"refinement":["integer",{"min":3,"max":5}]}"#,
+        r#""a""#,
+        "type",
+    ),
+    (
+        r#""T":{"refinement":["integer",{"min":3,"max":5}]}"#,
+        "null",
+        "type",
+    ),
+    (
+        r#""T":{"refinement":["integer",{"min":3,"max":5}]}"#,
+        "absent",
+        "type",
+    ),
+    (
+        r#""T":{"refinement":["integer",{"min":-9007199254740991}]}"#,
+        "-9007199254740991",
+        "-9007199254740991",
+    ),
+    (
+        r#""T":{"refinement":["integer",{"max":-1}]}"#,
+        "0",
+        "refine",
+    ),
+    (
+        r#""N1":"integer","T":{"refinement":["N1",{"min":3}]}"#,
+        "2",
+        "refine",
+    ),
+    (
+        r#""N1":"integer","T":{"refinement":["N1",{"min":3}]}"#,
+        "3",
+        "3",
+    ),
+];
+
+pub const LENGTHS_COUNT_CHARACTERS: &[Row] = &[
+    (
+        r#""T":{"refinement":["string",{"minLength":2}]}"#,
+        r#""é""#,
+        "refine",
+    ),
+    (
+        r#""T":{"refinement":["string",{"minLength":2}]}"#,
+        r#""€""#,
+        "refine",
+    ),
+    (
+        r#""T":{"refinement":["string",{"minLength":2}]}"#,
+        r#""😀""#,
+        "refine",
+    ),
+    (
+        r#""T":{"refinement":["string",{"minLength":2}]}"#,
+        r#""é€""#,
+        r#""é€""#,
+    ),
+    (
+        r#""T":{"refinement":["string",{"maxLength":3}]}"#,
+        r#""aé€""#,
+        r#""aé€""#,
+    ),
+    (
+        r#""T":{"refinement":["string",{"maxLength":3}]}"#,
+        r#""😀😀😀""#,
+        r#""😀😀😀""#,
+    ),
+    (
+        r#""T":{"refinement":["string",{"maxLength":3}]}"#,
+        r#""😀😀😀a""#,
+        "refine",
+    ),
+    (
+        r#""T":{"refinement":["string",{"maxLength":0}]}"#,
+        r#""""#,
+        r#""""#,
+    ),
+    (
+        r#""T":{"refinement":["string",{"maxLength":0}]}"#,
+        r#""a""#,
+        "refine",
+    ),
+    (
+        r#""T":{"refinement":["string",{"maxLength":0}]}"#,
+        "5",
+        "type",
+    ),
+    (
+        r#""T":{"refinement":["string",{"maxLength":0}]}"#,
+        "absent",
+        "type",
+    ),
+];
+
+const LENGTH_AND_BEGINNING: &str =
+    r#""T":{"refinement":["string",{"minLength":2,"startsWith":"a"}]}"#;
+
+pub const BEGINNINGS_ARE_COMPARED_BY_BYTES: &[Row] = &[
+    (
+        r#""T":{"refinement":["string",{"startsWith":"é"}]}"#,
+        r#""é""#,
+        r#""é""#,
+    ),
+    (
+        r#""T":{"refinement":["string",{"startsWith":"é"}]}"#,
+        r#""éa""#,
+        r#""éa""#,
+    ),
+    (
+        r#""T":{"refinement":["string",{"startsWith":"é"}]}"#,
+        r#""aé""#,
+        "refine",
+    ),
+    (
+        r#""T":{"refinement":["string",{"startsWith":"é"}]}"#,
+        r#""""#,
+        "refine",
+    ),
+    (
+        r#""T":{"refinement":["string",{"startsWith":"e"}]}"#,
+        r#""é""#,
+        "refine",
+    ),
+    (
+        r#""T":{"refinement":["string",{"startsWith":"e"}]}"#,
+        r#""é""#,
+        r#""é""#,
+    ),
+    (LENGTH_AND_BEGINNING, r#""ab""#, r#""ab""#),
+    (LENGTH_AND_BEGINNING, r#""a""#, "refine"),
+    (LENGTH_AND_BEGINNING, r#""ba""#, "refine"),
+];
