@@ -9,11 +9,18 @@ pub enum SchemaRule {
     /// A text that must be a name isn't, is taken or isn't known; or a type leads back to itself with no
     /// list, record or model between.
     Name,
-    /// A text stands twice in an enumeration.
+    /// A name or a text stands twice where it may stand once.
     Twice,
+    /// An action has too many parameters, a repeated one, or one of a type that no argument has.
+    Arguments,
+    /// An expression or a block of statements nests too deep.
+    Depth,
     /// The length of the history isn't in its range.
     History,
-    /// The root isn't a model.
+    /// An identifier's type isn't directly that of a property, or is the second one of its model.
+    Identifier,
+    /// The root isn't a model, a reference leads to no model with an identifier, or a safe reference stands
+    /// where it can't be cleared.
     Target,
     /// The members of a union aren't told apart, or one is of a kind that no union takes.
     Union,
@@ -30,7 +37,10 @@ impl SchemaRule {
             SchemaRule::Shape => "shape",
             SchemaRule::Name => "name",
             SchemaRule::Twice => "twice",
+            SchemaRule::Arguments => "arguments",
+            SchemaRule::Depth => "depth",
             SchemaRule::History => "history",
+            SchemaRule::Identifier => "identifier",
             SchemaRule::Target => "target",
             SchemaRule::Union => "union",
             SchemaRule::Default => "default",
