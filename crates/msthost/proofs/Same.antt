@@ -3,7 +3,7 @@ use Rattle.std.proofs.Common.{◌≡◌, ℕ, List, ◌∷◌, Option, Some, Non
 use Rattle.std.specs.Prelude.{IsSomeAnd, length, slice_get}
 use Rattle.std.proofs.lemmas.Option.{same_Some}
 use mathlib.Core.Path.{fun_ext}
-use Rattle.snap_core.specs.Value.{Value, null, boolean, integer, text, list, dict, Parts, no_parts, part, Members, no_members, member}
+use Rattle.snap_core.specs.Value.{Value, null, boolean, integer, text, list, dict, no_parts, part, no_members, member, Items, Fields}
 use Rattle.snap_core.specs.declared.snap.Snap.{Snap}
 use Rattle.snap_core.specs.declared.number.ModelNo.{ModelNo}
 use Rattle.snap_core.specs.declared.number.TypeNo.{TypeNo}
@@ -16,7 +16,7 @@ use Rattle.type_core.specs.Names.{named_by}
 use Rattle.type_core.specs.Judging.{judged_by}
 use Rattle.type_core.specs.Sound.{IsSound, HasDefaults, AreAll, AreMade}
 use Rattle.type_core.specs.Makes.{Makes}
-use Rattle.type_core.specs.Making.{Maker, Fields, default_made, absent, absent_made, list_made, dict_made, maker_of, makers_of, fields_of, made_by, making, limited}
+use Rattle.type_core.specs.Making.{Maker, FieldMakers, default_made, absent, absent_made, list_made, dict_made, maker_of, makers_of, fields_of, made_by, making, limited}
 use Rattle.type_core.proofs.Chains.{IsLoopless}
 use Rattle.type_core.proofs.Laws.{named-leads, made_by-complete}
 use Rattle.expr_core.specs.Schema.{Schema}
@@ -34,17 +34,17 @@ module _ (table : Table) (ours theirs : List (Option Snap)) (same : (t : ℕ) �
     maker-same (list a ps) t = ap (λ (ms : List Maker). list_made (list a ps) ms (judged_by table (list a ps) t)) (makers-same ps)
     maker-same (dict a ms) t =
         ap (λ (f : Maker). dict_made table f (dict a ms) (fields_of table ours ms) (judged_by table (dict a ms) t)) (fun_ext same)
-        ∙ ap (λ (fs : Fields). dict_made table (absent table theirs) (dict a ms) fs (judged_by table (dict a ms) t)) (fields-same ms)
+        ∙ ap (λ (fs : FieldMakers). dict_made table (absent table theirs) (dict a ms) fs (judged_by table (dict a ms) t)) (fields-same ms)
 
-    pub makers-same : (ps : Parts (Unit {0})) → makers_of table ours ps ≡ makers_of table theirs ps
+    pub makers-same : (ps : Items) → makers_of table ours ps ≡ makers_of table theirs ps
     makers-same no_parts = refl
     makers-same (part v ps) =
         ap (λ (m : Maker). m ∷ makers_of table ours ps) (fun_ext (maker-same v)) ∙ ap (λ (ms : List Maker). maker_of table theirs v ∷ ms) (makers-same ps)
 
-    pub fields-same : (ms : Members (Unit {0})) → fields_of table ours ms ≡ fields_of table theirs ms
+    pub fields-same : (ms : Fields) → fields_of table ours ms ≡ fields_of table theirs ms
     fields-same no_members = refl
     fields-same (member k v ms) =
-        ap (λ (m : Maker). (k, m) ∷ fields_of table ours ms) (fun_ext (maker-same v)) ∙ ap (λ (fs : Fields). (k, maker_of table theirs v) ∷ fs) (fields-same ms)
+        ap (λ (m : Maker). (k, m) ∷ fields_of table ours ms) (fun_ext (maker-same v)) ∙ ap (λ (fs : FieldMakers). (k, maker_of table theirs v) ∷ fs) (fields-same ms)
 
   pub made_by-same : (t : ℕ) (x : Option Value) → made_by table ours t x ≡ made_by table theirs t x
   made_by-same t None = same t

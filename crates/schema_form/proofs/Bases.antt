@@ -1,6 +1,6 @@
 -- Steps along the names that a refinement's base leads through.
 use Rattle.std.proofs.Common.{◌≡◌, ℕ, zero, suc, List, [], ◌∷◌, length, false, Option, Some, None, refl, sym, ◌∙◌, ap, arith}
-use Rattle.snap_core.specs.Value.{Value, text, Members, value_at}
+use Rattle.snap_core.specs.Value.{Value, text, value_at, Fields}
 use Rattle.snap_core.specs.declared.snap.Snap.{Snap}
 use Rattle.snap_core.specs.declared.snap.Field.{Field}
 use Rattle.snap_core.specs.View.{view, fields_view}
@@ -12,15 +12,15 @@ pub count-fields_view : (fs : List Field) → count (fields_view fs) ≡ length 
 count-fields_view [] = refl
 count-fields_view (f ∷ fs) = rw (count-fields_view fs) (omega arith)
 
-pub base_within-none : (ms : Members (Unit {0})) (n : ℕ) → base_within ms n None ≡ None
+pub base_within-none : (ms : Fields) (n : ℕ) → base_within ms n None ≡ None
 base_within-none ms zero = refl
 base_within-none ms (suc n) = refl
 
-base_within-named : (ms : Members (Unit {0})) (n m : ℕ) (s : List ℕ) → n ≡ suc m → is_taken s ≡ false → base_within ms n (Some (text s)) ≡ base_within ms m (value_at s ms)
+base_within-named : (ms : Fields) (n m : ℕ) (s : List ℕ) → n ≡ suc m → is_taken s ≡ false → base_within ms n (Some (text s)) ≡ base_within ms m (value_at s ms)
 base_within-named ms n m s more free = rw (more, free)
 
 -- a name that isn't taken leads to what stands under it
-pub base_within-followed : (ms : Members (Unit {0})) (n m : ℕ) (at : Snap) (s key : List ℕ) (found : Option Value) (whole : Option Base)
+pub base_within-followed : (ms : Fields) (n m : ℕ) (at : Snap) (s key : List ℕ) (found : Option Value) (whole : Option Base)
     → at ≡ Snap.Text s → n ≡ suc m → key ≡ s → is_taken key ≡ false → found ≡ value_at key ms
     → base_within ms n (Some (view at)) ≡ whole → base_within ms m found ≡ whole
 base_within-followed ms n m at s key found whole is more same free here so_far =

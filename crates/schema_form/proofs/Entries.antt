@@ -2,7 +2,7 @@
 use Rattle.std.proofs.Common.{◌≡◌, ℕ, ◌+◌, ◌<◌, List, [], ◌∷◌, ◌++◌, length, get_or, drop, codes, Bool, true, false, is_some, Option, Some, None, if◌then◌else◌, refl, sym, ◌∙◌, subst, drop-cons, add-one, arith}
 use Rattle.std.specs.Str.{bytes_eq}
 use Rattle.std.proofs.lemmas.Slice.Eq.{bytes_eq-Decides}
-use Rattle.snap_core.specs.Value.{Value, null, boolean, integer, text, list, dict, Members, no_members, member, value_at}
+use Rattle.snap_core.specs.Value.{Value, null, boolean, integer, text, list, dict, no_members, member, value_at, Fields}
 use Rattle.snap_core.specs.declared.snap.Field.{Field}
 use Rattle.snap_core.specs.View.{view, fields_view}
 use Rattle.snap_core.proofs.Views.{entry-fields}
@@ -36,7 +36,7 @@ model-one (g ∷ []) f b one here test =
 model-one (g ∷ h ∷ fs) f b one here test = absurd (omega arith)
 
 -- under a good name, the first fault of an entry that is a model is that of the model
-pub entry-model : (types : Members (Unit {0})) (good : Bool) (v m : Value) (found : Option Fault) → Some m ≡ model_in v → good ≡ true
+pub entry-model : (types : Fields) (good : Bool) (v m : Value) (found : Option Fault) → Some m ≡ model_in v → good ≡ true
     → found ≡ first (under (codes "model") (model_faults types m)) → found ≡ first (entry_faults types v (unless good Name))
 entry-model types good null m found is good_key h = cc
 entry-model types good (boolean b) m found is good_key h = cc

@@ -2,7 +2,7 @@
 use Rattle.std.proofs.Common.{◌≡◌, ℕ, ◌+◌, ◌<◌, ◌≤◌, List, [], ◌∷◌, ◌++◌, length, get_or, drop, true, false, Option, Some, None, is_some, decimal, refl, sym, ◌∙◌, ap, subst, drop-cons, add-one}
 use Rattle.std.proofs.lemmas.List.{drop_all}
 use Rattle.std.specs.Option.{option_map, option_or}
-use Rattle.snap_core.specs.Value.{Value, Parts, no_parts, part, Members, no_members, member}
+use Rattle.snap_core.specs.Value.{Value, no_parts, part, no_members, member, Items, Fields}
 use Rattle.snap_core.specs.declared.snap.Snap.{Snap}
 use Rattle.snap_core.specs.declared.snap.Field.{Field}
 use Rattle.snap_core.specs.View.{view, items_view, fields_view}
@@ -32,9 +32,9 @@ pub first-passed : (found : Option Fault) (a b : List Fault) → found ≡ first
 first-passed None a b e h = rw first-append (rw (← e) refl)
 first-passed (Some f) a b e h = cc
 
-module _ (F : Members (Unit {0}) → List Fault) (G : List ℕ → Value → List Fault)
+module _ (F : Fields → List Fault) (G : List ℕ → Value → List Fault)
     (none : F no_members ≡ [])
-    (step : (k : List ℕ) (v : Value) (ms : Members (Unit {0})) → F (member k v ms) ≡ G k v ++ F ms) where
+    (step : (k : List ℕ) (v : Value) (ms : Fields) → F (member k v ms) ≡ G k v ++ F ms) where
   fields-step : (fs : List Field) (i : ℕ) (f : Field) → i < length fs → f ≡ get_or fs i f
       → F (fields_view (drop i fs)) ≡ G f.key (view f.value) ++ F (fields_view (drop (i + 1) fs))
   fields-step fs i f within here =
@@ -76,9 +76,9 @@ module _ (faults : List ℕ → Value → List Fault) where
       fields-found (member_faults faults) (λ k v. under k (faults k v)) refl (λ k v ms. refl) whole found fs i f within here so_far
       (first-lowered found inner f.key token (faults f.key (view f.value)) is same was) some
 
-module _ (F : ℕ → Parts (Unit {0}) → List Fault) (G : Value → List Fault)
+module _ (F : ℕ → Items → List Fault) (G : Value → List Fault)
     (none : (i : ℕ) → F i no_parts ≡ [])
-    (step : (i : ℕ) (v : Value) (ps : Parts (Unit {0})) → F i (part v ps) ≡ under (decimal i) (G v) ++ F (i + 1) ps) where
+    (step : (i : ℕ) (v : Value) (ps : Items) → F i (part v ps) ≡ under (decimal i) (G v) ++ F (i + 1) ps) where
   items-step : (vs : List Snap) (i : ℕ) (v : Snap) → i < length vs → v ≡ get_or vs i v
       → F i (items_view (drop i vs)) ≡ under (decimal i) (G (view v)) ++ F (i + 1) (items_view (drop (i + 1) vs))
   items-step vs i v within here =

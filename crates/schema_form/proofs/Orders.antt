@@ -1,6 +1,6 @@
 -- What stands in a record whose keys are in order.
 use Rattle.std.proofs.Common.{◌≡◌, ℕ, zero, suc, ◌<◌, List, [], ◌∷◌, length, get_or, refl, sym, ◌∙◌, ap, subst, arith}
-use Rattle.snap_core.specs.Value.{Value, null, boolean, integer, text, list, dict, Members, IsOrdered, AreKeyed, AreOrderedMembers}
+use Rattle.snap_core.specs.Value.{Value, null, boolean, integer, text, list, dict, IsOrdered, AreKeyed, AreOrderedMembers, Fields}
 use Rattle.snap_core.specs.declared.snap.Snap.{Snap}
 use Rattle.snap_core.specs.declared.snap.Snap
 use Rattle.snap_core.specs.declared.snap.Field.{Field}
@@ -11,7 +11,7 @@ use Rattle.snap_core.specs.View.{view, fields_view}
 use Rattle.snap_core.proofs.Keys.{AreKeyed-ordered}
 use Rattle.snap_core.proofs.Views.{entry-fields, view-Dict, snap_of-view}
 
-pub keyed_by_order : (ms : Members (Unit {0})) → AreOrderedMembers ms → AreKeyed ms
+pub keyed_by_order : (ms : Fields) → AreOrderedMembers ms → AreKeyed ms
 keyed_by_order = AreKeyed-ordered
 
 pub AreKeyed-entries : (v : Value) → IsOrdered v → AreKeyed (entries v)

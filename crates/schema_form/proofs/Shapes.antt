@@ -1,6 +1,6 @@
 -- Lists and records that haven't the length that a form wants.
 use Rattle.std.proofs.Common.{◌≡◌, ◌≤◌, ℕ, ◌==◌, ◌<◌, ◌++◌, get_or, Bool, true, false, Option, sym, ◌∙◌, ap, List, [], ◌∷◌, length, refl, arith}
-use Rattle.snap_core.specs.Value.{Value, null, boolean, integer, text, list, dict, no_parts, part, Members}
+use Rattle.snap_core.specs.Value.{Value, null, boolean, integer, text, list, dict, no_parts, part, Fields}
 use Rattle.snap_core.specs.declared.snap.Snap.{Snap}
 use Rattle.snap_core.specs.declared.snap.Field.{Field}
 use Rattle.snap_core.specs.View.{view, items_view, fields_view}
@@ -17,41 +17,41 @@ pub enumeration-some : (vs : List Snap) → (length vs == 0) ≡ false → enume
 enumeration-some [] some = cc
 enumeration-some (v ∷ vs) some = refl
 
-pub refinement-other : (types : Members (Unit {0})) (vs : List Snap) → (length vs ≡ 2 → ⊥) → refinement_faults types (list tt (items_view vs)) ≡ here Shape
+pub refinement-other : (types : Fields) (vs : List Snap) → (length vs ≡ 2 → ⊥) → refinement_faults types (list tt (items_view vs)) ≡ here Shape
 refinement-other types [] other = refl
 refinement-other types (v ∷ []) other = refl
 refinement-other types (v ∷ w ∷ []) other = absurd (other refl)
 refinement-other types (v ∷ w ∷ x ∷ vs) other = refl
 
-pub optional-other : (types : Members (Unit {0})) (vs : List Snap) → (length vs ≡ 2 → ⊥) → optional_faults types (list tt (items_view vs)) ≡ here Shape
+pub optional-other : (types : Fields) (vs : List Snap) → (length vs ≡ 2 → ⊥) → optional_faults types (list tt (items_view vs)) ≡ here Shape
 optional-other types [] other = refl
 optional-other types (v ∷ []) other = refl
 optional-other types (v ∷ w ∷ []) other = absurd (other refl)
 optional-other types (v ∷ w ∷ x ∷ vs) other = refl
 
-pub optional-pair : (types : Members (Unit {0})) (vs : List Snap) (v d : Snap) → length vs ≡ 2 → v ≡ get_or vs 0 v
+pub optional-pair : (types : Fields) (vs : List Snap) (v d : Snap) → length vs ≡ 2 → v ≡ get_or vs 0 v
     → optional_faults types (list tt (items_view vs)) ≡ defaulted_faults types (view v) (view (get_or vs 1 d))
 optional-pair types [] v d two first = absurd (omega arith)
 optional-pair types (x ∷ []) v d two first = absurd (omega arith)
 optional-pair types (x ∷ y ∷ []) v d two first = rw (first)
 optional-pair types (x ∷ y ∷ z ∷ vs) v d two first = absurd (omega arith)
 
-pub union-few : (types : Members (Unit {0})) (vs : List Snap) → length vs < 2 → union_faults types (list tt (items_view vs)) ≡ here Shape
+pub union-few : (types : Fields) (vs : List Snap) → length vs < 2 → union_faults types (list tt (items_view vs)) ≡ here Shape
 union-few types [] few = refl
 union-few types (v ∷ []) few = refl
 union-few types (v ∷ w ∷ vs) few = absurd (omega arith)
 
-pub union-some : (types : Members (Unit {0})) (vs : List Snap) → 2 ≤ length vs → union_faults types (list tt (items_view vs)) ≡ numbered 0 (parts_as_types types (items_view vs))
+pub union-some : (types : Fields) (vs : List Snap) → 2 ≤ length vs → union_faults types (list tt (items_view vs)) ≡ numbered 0 (parts_as_types types (items_view vs))
 union-some types [] some = absurd (omega arith)
 union-some types (v ∷ []) some = absurd (omega arith)
 union-some types (v ∷ w ∷ vs) some = refl
 
-pub formed-other : (types : Members (Unit {0})) (fs : List Field) (key : List Fault) → (length fs ≡ 1 → ⊥) → type_faults types (dict tt (fields_view fs)) key ≡ here Shape
+pub formed-other : (types : Fields) (fs : List Field) (key : List Fault) → (length fs ≡ 1 → ⊥) → type_faults types (dict tt (fields_view fs)) key ≡ here Shape
 formed-other types [] key other = refl
 formed-other types (f ∷ []) key other = absurd (other refl)
 formed-other types (f ∷ g ∷ fs) key other = refl
 
-pub formed-one : (types : Members (Unit {0})) (fs : List Field) (f : Field) (key : List Fault) → length fs ≡ 1 → f ≡ get_or fs 0 f
+pub formed-one : (types : Fields) (fs : List Field) (f : Field) (key : List Fault) → length fs ≡ 1 → f ≡ get_or fs 0 f
     → type_faults types (dict tt (fields_view fs)) key
     ≡ form_faults types key f.key (form_of f.key) (view f.value) (type_faults types (view f.value) []) (item_faults types (view f.value))
 formed-one types [] f key one here = absurd (omega arith)
@@ -59,7 +59,7 @@ formed-one types (g ∷ []) f key one here = rw (here) (rw (entry-fields g) refl
 formed-one types (g ∷ h ∷ fs) f key one here = absurd (omega arith)
 
 -- what stands under a key of a known form
-pub form-inside : (types : Members (Unit {0})) (key : List Fault) (k : List ℕ) (form : Form) (v : Value) → (form ≡ Unknown → ⊥)
+pub form-inside : (types : Fields) (key : List Fault) (k : List ℕ) (form : Form) (v : Value) → (form ≡ Unknown → ⊥)
     → form_faults types key k form v (type_faults types v []) (item_faults types v) ≡ key ++ under k (inside_faults types form v)
 form-inside types key k Unknown v known = absurd (known refl)
 form-inside types key k Around v known = refl
@@ -99,7 +99,7 @@ form-inside types key k Refinement (list a (part t (part cs (part e ps)))) known
 form-inside types key k Refinement (dict a ms) known = refl
 
 -- under a good key of a known form, the first fault is that of what stands there
-pub form-known : (types : Members (Unit {0})) (good : Bool) (key : List ℕ) (form : Form) (v : Value) (found : Option Fault)
+pub form-known : (types : Fields) (good : Bool) (key : List ℕ) (form : Form) (v : Value) (found : Option Fault)
     → (form ≡ Unknown → ⊥) → good ≡ true → found ≡ first (under key (inside_faults types form v))
     → found ≡ first (form_faults types (unless good Name) key form v (type_faults types v []) (item_faults types v))
 form-known types good key form v found known is_good h = rw is_good (h ∙ ap first (sym (form-inside types [] key form v known)))

@@ -2,7 +2,7 @@
 use Rattle.std.specs.Prelude.{ℕ, zero, suc, ◌+◌, List, [], ◌∷◌, codes, Bool, true, false, ◌&&◌, ◌||◌, is_some, Option, Some, None, if◌then◌else◌}
 use Rattle.std.specs.List.{list_any}
 use Rattle.std.specs.Str.{bytes_eq}
-use Rattle.snap_core.specs.Value.{Value, integer, text, dict, Members, no_members, member, value_at}
+use Rattle.snap_core.specs.Value.{Value, integer, text, dict, no_members, member, value_at, Fields}
 use Rattle.schema_form.specs.declared.words.Form.{Form}
 use Rattle.schema_form.specs.declared.words.Form.TheVariants.{Literal, Enumeration, Optional, Union, Refinement, Around, Unknown}
 use Rattle.schema_form.specs.declared.base.Base.{Base}
@@ -40,7 +40,7 @@ form_of key =
     else Unknown
 
 -- whether an object has a key
-abbrev pub has_key : List ℕ → Members (Unit {0}) → Bool
+abbrev pub has_key : List ℕ → Fields → Bool
 has_key key ms = is_some (value_at key ms)
 
 -- the kind that may be refined that a word stands for
@@ -51,18 +51,18 @@ base_word word =
     else None
 
 -- the kind that a type expression is, following at most so many names of these types
-abbrev pub base_within : Members (Unit {0}) → ℕ → Option Value → Option Base
+abbrev pub base_within : Fields → ℕ → Option Value → Option Base
 base_within types zero v = None
 base_within types (suc most) (Some (text s)) = if is_taken s then base_word s else base_within types most (value_at s types)
 base_within types (suc most) _ = None
 
 -- how many entries there are
-abbrev pub count : Members (Unit {0}) → ℕ
+abbrev pub count : Fields → ℕ
 count no_members = 0
 count (member k v ms) = count ms + 1
 
 -- the kind that a type expression is, names followed; None for any other type, and where names lead in a circle
-abbrev pub base_of : Members (Unit {0}) → Value → Option Base
+abbrev pub base_of : Fields → Value → Option Base
 base_of types v = base_within types (count types + 1) (Some v)
 
 -- an integer, and a text

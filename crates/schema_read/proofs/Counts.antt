@@ -1,6 +1,6 @@
 -- How many types a part of a schema stands for depends on no number.
 use Rattle.std.proofs.Common.{◌≡◌, ℕ, suc, ◌+◌, List, [], ◌∷◌, length, Option, Some, None, refl, sym, ap, ap₂, ◌∙◌, length-append}
-use Rattle.snap_core.specs.Value.{Value, null, boolean, integer, text, list, dict, Parts, no_parts, part, Members, no_members, member}
+use Rattle.snap_core.specs.Value.{Value, null, boolean, integer, text, list, dict, no_parts, part, no_members, member, Items, Fields}
 use Rattle.schema_form.specs.declared.words.Form.{Form}
 use Rattle.schema_form.specs.declared.words.Form.TheVariants.{Literal, Enumeration, Optional, Union, Refinement, Around, Unknown}
 use Rattle.schema_form.specs.Forms.{form_of}
@@ -60,22 +60,22 @@ mutual
   as_many-items p q (text s) = tt
   as_many-items p q (dict a ms) = tt
 
-  as_many-parts : (p q : Numbers) (ps : Parts (Unit {0})) → AllAsMany (part_shapes p ps) (part_shapes q ps)
+  as_many-parts : (p q : Numbers) (ps : Items) → AllAsMany (part_shapes p ps) (part_shapes q ps)
   as_many-parts p q no_parts = tt
   as_many-parts p q (part v ps) = (as_many p q v, as_many-parts p q ps)
 
-as_many-values : (p q : Numbers) (ms : Members (Unit {0})) → AllAsMany (value_shapes p ms) (value_shapes q ms)
+as_many-values : (p q : Numbers) (ms : Fields) → AllAsMany (value_shapes p ms) (value_shapes q ms)
 as_many-values p q no_members = tt
 as_many-values p q (member k v ms) = (as_many p q v, as_many-values p q ms)
 
-as_many-entry_at : (o : Option (Members (Unit {0}))) (p q : Numbers) (i j : ℕ) (v : Value) → model_in v ≡ o → AreAsMany (entry_shapes p i v) (entry_shapes q j v)
+as_many-entry_at : (o : Option Fields) (p q : Numbers) (i j : ℕ) (v : Value) → model_in v ≡ o → AreAsMany (entry_shapes p i v) (entry_shapes q j v)
 as_many-entry_at (Some ps) p q i j v is m n = rw is (ap suc (as_many-in_turn (value_shapes p ps) (value_shapes q ps) (as_many-values p q ps) (m + 1) (n + 1)))
 as_many-entry_at None p q i j v is m n = rw is (as_many p q v m n)
 
 pub as_many-entry : (p q : Numbers) (i j : ℕ) (v : Value) → AreAsMany (entry_shapes p i v) (entry_shapes q j v)
 as_many-entry p q i j v = as_many-entry_at (model_in v) p q i j v refl
 
-pub as_many-entries : (p q : Numbers) (ms : Members (Unit {0})) (i j : ℕ) → AreAsMany (entries_shapes p ms i) (entries_shapes q ms j)
+pub as_many-entries : (p q : Numbers) (ms : Fields) (i j : ℕ) → AreAsMany (entries_shapes p ms i) (entries_shapes q ms j)
 as_many-entries p q no_members i j m n = refl
 as_many-entries p q (member k v ms) i j m n =
     length-append (entry_shapes p i v m) (entries_shapes p ms (next_model i v) (m + length (entry_shapes p i v m)))

@@ -1,7 +1,7 @@
 -- What is shown of each type expression without faults, form by form.
 use Rattle.std.proofs.Common.{◌≡◌, ℕ, ◌+◌, List, [], ◌++◌, codes, decimal, Bool, true, false, ◌||◌, is_some, if◌then◌else◌, Some, None, refl, sym, ◌∙◌, subst, add-one}
 use Rattle.std.specs.Str.{bytes_eq}
-use Rattle.snap_core.specs.Value.{Value, text, list, dict, Parts, no_parts, part, Members, no_members, member}
+use Rattle.snap_core.specs.Value.{Value, text, list, dict, no_parts, part, no_members, member, Items, Fields}
 use Rattle.pointer_core.specs.declared.schema_rule.SchemaRule.TheVariants.{Shape, Name}
 use Rattle.schema_form.specs.declared.fault.Fault.{Fault}
 use Rattle.schema_form.specs.declared.words.Form.{Form}
@@ -12,7 +12,7 @@ use Rattle.schema_form.specs.Faults.{here, unless, under, number_faults, literal
 use Rattle.schema_read.proofs.NoFaults.{append_none, under_none, unless_none, here_some}
 
 -- a fact of each item
-abbrev pub Each : (Value → Type 0) → Parts (Unit {0}) → Type 0
+abbrev pub Each : (Value → Type 0) → Items → Type 0
 Each P no_parts = Unit {0}
 Each P (part v ps) = P v × Each P ps
 
@@ -21,22 +21,22 @@ EachItem P (list a ps) = Each P ps
 EachItem P _ = Unit {0}
 
 -- a word is a plain type, or the name of one of the types
-abbrev pub IsKnown : Members (Unit {0}) → List ℕ → Type 0
+abbrev pub IsKnown : Fields → List ℕ → Type 0
 IsKnown types s = is_word plain_words s ≡ false → has_key s types ≡ true
 
 -- the steps that show a fact of each type expression without faults
-pub record Steps (types : Members (Unit {0})) (P : Value → Type 0) : Type 0 where
+pub record Steps (types : Fields) (P : Value → Type 0) : Type 0 where
   pub of_word : (s : List ℕ) → IsKnown types s → P (text s)
   pub of_around : (a : Unit {0}) (k : List ℕ) (v : Value) → form_of k ≡ Around → P v → P (dict a (member k v no_members))
   pub of_literal : (a : Unit {0}) (k : List ℕ) (v : Value) → form_of k ≡ Literal → number_faults v ≡ [] → P (dict a (member k v no_members))
   pub of_enumeration : (a : Unit {0}) (k : List ℕ) (v : Value) → form_of k ≡ Enumeration → P (dict a (member k v no_members))
   pub of_optional : (a b : Unit {0}) (k : List ℕ) (t d : Value) → form_of k ≡ Optional → P t → number_faults d ≡ []
       → P (dict a (member k (list b (part t (part d no_parts))) no_members))
-  pub of_union : (a b : Unit {0}) (k : List ℕ) (ps : Parts (Unit {0})) → form_of k ≡ Union → Each P ps → P (dict a (member k (list b ps) no_members))
+  pub of_union : (a b : Unit {0}) (k : List ℕ) (ps : Items) → form_of k ≡ Union → Each P ps → P (dict a (member k (list b ps) no_members))
   pub of_refinement : (a b : Unit {0}) (k : List ℕ) (s : List ℕ) (cs : Value) → form_of k ≡ Refinement → IsKnown types s
       → P (dict a (member k (list b (part (text s) (part cs no_parts))) no_members))
 
-IsKnown-word : (types : Members (Unit {0})) (s : List ℕ) (key : List Fault) → type_faults types (text s) key ≡ [] → IsKnown types s
+IsKnown-word : (types : Fields) (s : List ℕ) (key : List Fault) → type_faults types (text s) key ≡ [] → IsKnown types s
 IsKnown-word types s key h =
     elim (is_word identifier_words s) as (λ b. (if b then here Shape else key ++ word_faults types s) ≡ [] → IsKnown types s) [
       | true ↦ λ e. absurd (here_some Shape e)
@@ -56,14 +56,14 @@ base_plain s h =
           ]
     ] h
 
-IsKnown-taken : (types : Members (Unit {0})) (s : List ℕ) (taken : Bool) → is_taken s ≡ taken → is_some (base_of types (text s)) ≡ true → taken || has_key s types ≡ true
+IsKnown-taken : (types : Fields) (s : List ℕ) (taken : Bool) → is_taken s ≡ taken → is_some (base_of types (text s)) ≡ true → taken || has_key s types ≡ true
     → IsKnown types s
 IsKnown-taken types s true e some h =
     let base = rw (add-one, e) at some in
     λ other. let no : true ≡ false = sym (base_plain s base) ∙ other in cc
 IsKnown-taken types s false e some h = λ other. h
 
-IsKnown-base : (types : Members (Unit {0})) (t : Value) → base_faults types t ≡ [] → (s : List ℕ) × (t ≡ text s) × IsKnown types s
+IsKnown-base : (types : Fields) (t : Value) → base_faults types t ≡ [] → (s : List ℕ) × (t ≡ text s) × IsKnown types s
 IsKnown-base types (text s) h =
     elim (is_taken s || has_key s types) as (λ b. (is_taken s || has_key s types) ≡ b → (if b then unless (is_some (base_of types (text s))) Shape else here Name) ≡ []
     → (r : List ℕ) × ◌≡◌ {A = Value} (text s) (text r) × IsKnown types r) [
@@ -81,14 +81,14 @@ literal_none v h = h
 no_form : (key : List Fault) (k : List ℕ) → key ++ under k (here Shape) ≡ [] → ⊥
 no_form key k h = here_some Shape (under_none k (here Shape) (append_none key (under k (here Shape)) h).1)
 
-each_numbered : (types : Members (Unit {0})) (P : Value → Type 0) (i : ℕ) (ps : Parts (Unit {0})) → numbered i (parts_as_types types ps) ≡ []
+each_numbered : (types : Fields) (P : Value → Type 0) (i : ℕ) (ps : Items) → numbered i (parts_as_types types ps) ≡ []
     → Each (λ t. type_faults types t [] ≡ [] → P t) ps → Each P ps
 each_numbered types P i no_parts h each = tt
 each_numbered types P i (part v ps) h each =
     let none = append_none (under (decimal i) (type_faults types v [])) (numbered (i + 1) (parts_as_types types ps)) h in
     (each.0 (under_none (decimal i) (type_faults types v []) none.0), each_numbered types P (i + 1) ps none.1 each.1)
 
-module _ (types : Members (Unit {0})) (P : Value → Type 0) (steps : Steps types P) where
+module _ (types : Fields) (P : Value → Type 0) (steps : Steps types P) where
   of_form : (a : Unit {0}) (k : List ℕ) (form : Form) (v : Value) (key : List Fault) → form_of k ≡ form
       → form_faults types key k form v (type_faults types v []) (item_faults types v) ≡ []
       → (type_faults types v [] ≡ [] → P v) → EachItem (λ t. type_faults types t [] ≡ [] → P t) v → P (dict a (member k v no_members))
@@ -127,6 +127,6 @@ module _ (types : Members (Unit {0})) (P : Value → Type 0) (steps : Steps type
     of_items (list a ps) = of_parts ps
     of_items v = tt
 
-    of_parts : (ps : Parts (Unit {0})) → Each (λ t. type_faults types t [] ≡ [] → P t) ps
+    of_parts : (ps : Items) → Each (λ t. type_faults types t [] ≡ [] → P t) ps
     of_parts no_parts = tt
     of_parts (part v ps) = (of_type v [], of_parts ps)

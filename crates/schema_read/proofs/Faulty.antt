@@ -3,7 +3,7 @@ use Rattle.std.proofs.Common.{◌≡◌, ℕ, zero, suc, ◌+◌, ◌-◌, ◌<�
 use Rattle.std.specs.Prelude.{Contains}
 use Rattle.std.proofs.lemmas.Bool.{cases_lt}
 use Rattle.std.proofs.lemmas.Option.{same_Some}
-use Rattle.snap_core.specs.Value.{Members}
+use Rattle.snap_core.specs.Value.{Fields}
 use Rattle.snap_core.specs.declared.number.TypeNo.{TypeNo}
 use Rattle.snap_core.specs.declared.number.ModelNo.{ModelNo}
 use Rattle.pointer_core.specs.declared.schema_rule.SchemaRule.{SchemaRule}
@@ -30,7 +30,7 @@ slice_get-past (y ∷ xs) ys (suc i) x past h =
     rw e (slice_get-past xs ys i x (omega arith) h)
 
 -- a type that is no model is one of the expressions'
-no_model : (types : Members (Unit {0})) (t : ℕ) (s : Shape) → shape_at (table_of types) t ≡ Some s → ((l : ModelNo) → s ≡ shape.Model l → ⊥)
+no_model : (types : Fields) (t : ℕ) (s : Shape) → shape_at (table_of types) t ≡ Some s → ((l : ModelNo) → s ≡ shape.Model l → ⊥)
     → t < length (expression_shapes types)
 no_model types t s at other = elim (cases_lt t (length (expression_shapes types))) [
   | inl below ↦ below
@@ -46,11 +46,11 @@ no_lead s u l leads is =
     let none : Contains [] u = subst P is leads in
     omega (arith, none.1)
 
-LeadsTo-expression : (types : Members (Unit {0})) (t u : ℕ) → LeadsTo (table_of types) t u → t < length (expression_shapes types)
+LeadsTo-expression : (types : Fields) (t u : ℕ) → LeadsTo (table_of types) t u → t < length (expression_shapes types)
 LeadsTo-expression types _ _ (LeadsTo.at_once t s u is leads) = no_model types t s is (λ l. no_lead s u l leads)
 LeadsTo-expression types _ _ (LeadsTo.by_way t s u w is leads on) = no_model types t s is (λ l. no_lead s u l leads)
 
-pub HasFault-expression : (types : Members (Unit {0})) (t : ℕ) (rule : SchemaRule) → HasFault (table_of types) t rule → t < length (expression_shapes types)
+pub HasFault-expression : (types : Fields) (t : ℕ) (rule : SchemaRule) → HasFault (table_of types) t rule → t < length (expression_shapes types)
 HasFault-expression types _ _ (name t back) = LeadsTo-expression types t t back
 HasFault-expression types _ _ (union t ms is apart) = no_model types t (shape.Union ms) is (λ l e. cc)
 HasFault-expression types _ _ («default» t u d is none) = no_model types t (shape.Optional u d) is (λ l e. cc)

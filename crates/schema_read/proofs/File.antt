@@ -2,7 +2,7 @@
 use Rattle.std.proofs.Common.{◌≡◌, ℕ, List, [], codes, Bool, true, false, ◌&&◌, is_some, if◌then◌else◌, Option, Some, None, refl, sym, subst}
 use Rattle.std.specs.Str.{bytes_eq}
 use Rattle.std.proofs.lemmas.Slice.Eq.{bytes_eq-Decides}
-use Rattle.snap_core.specs.Value.{Value, dict, Members, no_members, member, value_at, IsOrdered, AreOrderedMembers}
+use Rattle.snap_core.specs.Value.{Value, dict, no_members, member, value_at, IsOrdered, AreOrderedMembers, Fields}
 use Rattle.snap_core.proofs.Keys.{IsOrdered-value_at}
 use Rattle.pointer_core.specs.declared.schema_rule.SchemaRule.TheVariants.{Shape}
 use Rattle.schema_form.specs.Forms.{has_key}
@@ -11,7 +11,7 @@ use Rattle.schema_read.proofs.NoFaults.{append_none, under_none, unless_none, he
 use Rattle.schema_read.proofs.Formed.{both_true}
 
 -- the part under a key has no fault
-pub part_at : (types : Members (Unit {0})) (key : List ℕ) (ms : Members (Unit {0})) (v : Value) → member_faults (part_faults types) ms ≡ [] → value_at key ms ≡ Some v
+pub part_at : (types : Fields) (key : List ℕ) (ms : Fields) (v : Value) → member_faults (part_faults types) ms ≡ [] → value_at key ms ≡ Some v
     → part_faults types key v ≡ []
 part_at types key no_members v h at = cc
 part_at types key (member k w ms) v h at =
@@ -25,14 +25,14 @@ part_at types key (member k w ms) v h at =
       | false ↦ λ e found. part_at types key ms v none.1 found
     ] refl at
 
-present : (key : List ℕ) (ms : Members (Unit {0})) → has_key key ms ≡ true → (v : Value) × (value_at key ms ≡ Some v)
+present : (key : List ℕ) (ms : Fields) → has_key key ms ≡ true → (v : Value) × (value_at key ms ≡ Some v)
 present key ms has = go (value_at key ms) refl has where
   go : (o : Option Value) → value_at key ms ≡ o → is_some o ≡ true → (v : Value) × (value_at key ms ≡ Some v)
   go (Some v) e some = (v, e)
   go None e some = cc
 
 -- a file has types, and its parts have no fault
-pub record HasParts (ms : Members (Unit {0})) : Type 0 where
+pub record HasParts (ms : Fields) : Type 0 where
   pub types : has_key (codes "types") ms ≡ true
   pub parts : member_faults (part_faults (types_of (dict tt ms))) ms ≡ []
 

@@ -5,7 +5,7 @@ use Rattle.std.specs.Option.{option_map}
 use Rattle.std.specs.Str.{bytes_eq}
 use Rattle.std.proofs.lemmas.Bool.{not-true}
 use Rattle.snap_core.specs.Name.{is_name}
-use Rattle.snap_core.specs.Value.{Value, text, list, dict, no_parts, part, Members, no_members, member}
+use Rattle.snap_core.specs.Value.{Value, text, list, dict, no_parts, part, no_members, member, Fields}
 use Rattle.pointer_core.specs.declared.schema_rule.SchemaRule.TheVariants.{Shape, Name}
 use Rattle.schema_form.specs.declared.fault.Fault.{Fault}
 use Rattle.schema_form.specs.declared.words.Form.{Form}
@@ -16,7 +16,7 @@ use Rattle.schema_read.specs.Types.{properties_in, model_in}
 use Rattle.schema_read.proofs.NoFaults.{append_none, under_none, unless_none, here_some}
 
 -- a type expression without faults stands under a key without faults
-key_form : (types : Members (Unit {0})) (key : List Fault) (k : List ℕ) (form : Form) (v : Value) (inner : List Fault) (items : List (List Fault))
+key_form : (types : Fields) (key : List Fault) (k : List ℕ) (form : Form) (v : Value) (inner : List Fault) (items : List (List Fault))
     → form_faults types key k form v inner items ≡ [] → key ≡ []
 key_form types key k Unknown v inner items h = absurd (here_some Shape h)
 key_form types key k Around v inner items h = (append_none key (under k inner) h).0
@@ -29,7 +29,7 @@ key_form types key k Refinement (list a (part t (part cs no_parts))) inner items
     (append_none key (under k (under (codes "0") (base_faults types t) ++ under (codes "1") (conditions_faults (base_of types t) cs))) h).0
 key_form types key k form v inner items h = (append_none key (under k (here Shape)) h).0
 
-pub key_type : (types : Members (Unit {0})) (v : Value) (key : List Fault) → type_faults types v key ≡ [] → key ≡ []
+pub key_type : (types : Fields) (v : Value) (key : List Fault) → type_faults types v key ≡ [] → key ≡ []
 key_type types (text s) key h =
     elim (is_word identifier_words s) as (λ b. (if b then here Shape else key ++ word_faults types s) ≡ [] → key ≡ []) [
       | true ↦ λ e. absurd (here_some Shape e)
@@ -39,7 +39,7 @@ key_type types (dict a (member k v no_members)) key h = key_form types key k (fo
 key_type types v key h = absurd (here_some Shape h)
 
 -- the first property and the others
-pub property_parts : (types : Members (Unit {0})) (k : List ℕ) (v : Value) (ms : Members (Unit {0})) → member_faults (property_faults types) (member k v ms) ≡ []
+pub property_parts : (types : Fields) (k : List ℕ) (v : Value) (ms : Fields) → member_faults (property_faults types) (member k v ms) ≡ []
     → (is_name k ≡ true) × (type_faults types v (unless (is_name k) Name) ≡ []) × (member_faults (property_faults types) ms ≡ [])
 property_parts types k v ms h =
     let first : List Fault = type_faults types v (unless (is_name k) Name) in
@@ -47,7 +47,7 @@ property_parts types k v ms h =
     let own : first ≡ [] = under_none k first none.0 in
     (unless_none (is_name k) Name (key_type types v (unless (is_name k) Name) own), own, none.1)
 
-properties_none : (types : Members (Unit {0})) (v : Value) → model_faults types v ≡ [] → member_faults (property_faults types) (properties_in v) ≡ []
+properties_none : (types : Fields) (v : Value) → model_faults types v ≡ [] → member_faults (property_faults types) (properties_in v) ≡ []
 properties_none types (dict a (member k (dict b ms) no_members)) h =
     let top : List Fault = unless (has_key (codes "properties") (member k (dict b ms) no_members)) Shape in
     let part : List Fault = under k (if bytes_eq k (codes "properties") then properties_faults types (dict b ms) else here Shape) in
@@ -59,18 +59,18 @@ properties_none types (dict a (member k (dict b ms) no_members)) h =
 properties_none types v h = refl
 
 -- an entry is a model, or a type expression
-pub entry_cases : (types : Members (Unit {0})) (v : Value) (key : List Fault) → entry_faults types v key ≡ []
-    → ((ps : Members (Unit {0})) × (model_in v ≡ Some ps) × (member_faults (property_faults types) ps ≡ [])) ⊎ ((model_in v ≡ None) × (type_faults types v key ≡ []))
+pub entry_cases : (types : Fields) (v : Value) (key : List Fault) → entry_faults types v key ≡ []
+    → ((ps : Fields) × (model_in v ≡ Some ps) × (member_faults (property_faults types) ps ≡ [])) ⊎ ((model_in v ≡ None) × (type_faults types v key ≡ []))
 entry_cases types (dict a (member k v no_members)) key h =
     elim (bytes_eq k (codes "model")) as (λ b. (if b then key ++ under k (model_faults types v) else type_faults types (dict a (member k v no_members)) key) ≡ []
-    → ((ps : Members (Unit {0})) × (option_map properties_in (if b then Some v else None) ≡ Some ps) × (member_faults (property_faults types) ps ≡ []))
+    → ((ps : Fields) × (option_map properties_in (if b then Some v else None) ≡ Some ps) × (member_faults (property_faults types) ps ≡ []))
     ⊎ ((option_map properties_in (if b then Some v else None) ≡ None) × (type_faults types (dict a (member k v no_members)) key ≡ []))) [
       | true ↦ λ e. inl (properties_in v, refl, properties_none types v (under_none k (model_faults types v) (append_none key (under k (model_faults types v)) e).1))
       | false ↦ λ e. inr (refl, e)
     ] h
 entry_cases types v key h = inr (refl, h)
 
-entry_key : (types : Members (Unit {0})) (v : Value) (key : List Fault) → entry_faults types v key ≡ [] → key ≡ []
+entry_key : (types : Fields) (v : Value) (key : List Fault) → entry_faults types v key ≡ [] → key ≡ []
 entry_key types (dict a (member k v no_members)) key h =
     elim (bytes_eq k (codes "model")) as (λ b. (if b then key ++ under k (model_faults types v) else type_faults types (dict a (member k v no_members)) key) ≡ []
     → key ≡ []) [
@@ -84,7 +84,7 @@ both_true true b h = (refl, h)
 both_true false b h = cc
 
 -- the first entry and the others
-pub entries_parts : (types : Members (Unit {0})) (k : List ℕ) (v : Value) (ms : Members (Unit {0})) → member_faults (named_faults types) (member k v ms) ≡ []
+pub entries_parts : (types : Fields) (k : List ℕ) (v : Value) (ms : Fields) → member_faults (named_faults types) (member k v ms) ≡ []
     → (is_name k ≡ true) × (is_taken k ≡ false) × (entry_faults types v (unless (is_name k && not (is_taken k)) Name) ≡ []) × (member_faults (named_faults types) ms ≡ [])
 entries_parts types k v ms h =
     let key : List Fault = unless (is_name k && not (is_taken k)) Name in

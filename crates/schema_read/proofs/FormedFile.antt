@@ -3,7 +3,7 @@ use Rattle.std.proofs.Common.{◌≡◌, ℕ, suc, ◌+◌, ◌≤◌, List, [],
 use Rattle.std.specs.Prelude.{All}
 use Rattle.std.proofs.lemmas.List.{length-map}
 use Rattle.std.proofs.lemmas.List.Elements.{All-head, All-tail}
-use Rattle.snap_core.specs.Value.{Value, Members, IsOrdered, AreOrderedMembers}
+use Rattle.snap_core.specs.Value.{Value, IsOrdered, AreOrderedMembers, Fields}
 use Rattle.pointer_core.specs.Path.{Path}
 use Rattle.pointer_core.specs.declared.schema_rule.SchemaRule.{SchemaRule}
 use Rattle.type_core.specs.declared.shape.Shape.{Shape}
@@ -34,7 +34,7 @@ AreModels-fit count own (m ∷ ms) fit numbered =
     )
 
 -- the types without faults are whole
-pub AreWhole-types : (types : Members (Unit {0})) → member_faults (named_faults types) types ≡ [] → AreOrderedMembers types → AreWhole (expression_shapes types) (models_in types)
+pub AreWhole-types : (types : Fields) → member_faults (named_faults types) types ≡ [] → AreOrderedMembers types → AreWhole (expression_shapes types) (models_in types)
 AreWhole-types types h ordered =
     let shapes : List Shape = expression_shapes types in
     let own : List Shape = own_shapes 0 (models_in types) in
@@ -51,7 +51,7 @@ AreWhole-file file h ordered = AreWhole-types (types_of file) (types_formed file
 pub fault_place : (file : Value) (t : ℕ) (rule : SchemaRule) → file_faults file ≡ [] → HasFault (table_of (types_of file)) t rule
     → IsSome (slice_get (places_of (types_of file)) t)
 fault_place file t rule h fault =
-    let types : Members (Unit {0}) = types_of file in
+    let types : Fields = types_of file in
     let found = place_at types t (types_formed file h) (HasFault-expression types t rule fault) in
     let P : Option Path → Type 0 = IsSome in
     subst P (sym found.1) refl

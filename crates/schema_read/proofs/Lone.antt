@@ -1,6 +1,6 @@
 -- A record with one entry, and one with another number of them.
 use Rattle.std.proofs.Common.{◌≡◌, ◌≢◌, ℕ, List, [], ◌∷◌, length, get_or, refl, sym, ap, ◌∙◌, subst, arith}
-use Rattle.snap_core.specs.Value.{Value, null, boolean, integer, text, list, dict, Members, no_members, member}
+use Rattle.snap_core.specs.Value.{Value, null, boolean, integer, text, list, dict, no_members, member, Fields}
 use Rattle.snap_core.specs.declared.snap.Field.{Field}
 use Rattle.snap_core.specs.View.{view, entry, fields_view}
 use Rattle.snap_core.proofs.Views.{entry-fields}
@@ -22,7 +22,7 @@ properties_alone k (text s) = refl
 properties_alone k (list a ps) = refl
 properties_alone k (dict a ms) = refl
 
-properties_more : (k l : List ℕ) (v w : Value) (ms : Members (Unit {0})) → properties_in (dict tt (member k v (member l w ms))) ≡ no_members
+properties_more : (k l : List ℕ) (v w : Value) (ms : Fields) → properties_in (dict tt (member k v (member l w ms))) ≡ no_members
 properties_more k l null w ms = refl
 properties_more k l (boolean b) w ms = refl
 properties_more k l (integer z) w ms = refl

@@ -3,7 +3,7 @@ use Rattle.std.proofs.Common.{◌≡◌, ℕ, ◌+◌, ◌<◌, ◌≤◌, List,
 use Rattle.std.specs.Option.{option_or}
 use Rattle.std.specs.Str.{bytes_eq}
 use Rattle.std.proofs.lemmas.List.{drop_all}
-use Rattle.snap_core.specs.Value.{Value, Members, no_members, member}
+use Rattle.snap_core.specs.Value.{Value, no_members, member, Fields}
 use Rattle.snap_core.specs.declared.snap.Field.{Field}
 use Rattle.snap_core.specs.View.{view, entry, fields_view}
 use Rattle.snap_core.proofs.Views.{entry-fields}
@@ -34,7 +34,7 @@ numbered_by true None n rest = refl
 numbered_by false None n rest = refl
 
 -- a name's number, when the names so far have one more
-pub numbered_more : (name k : List ℕ) (v : Value) (ms rest : Members (Unit {0})) (o new : Option ℕ) (n next : ℕ)
+pub numbered_more : (name k : List ℕ) (v : Value) (ms rest : Fields) (o new : Option ℕ) (n next : ℕ)
     → ms ≡ member k v rest → new ≡ option_or o (cond (bytes_eq name k) (Some n) None) → next ≡ n + count_of v
     → unwrap_or new (number_within rest next name) ≡ unwrap_or o (number_within ms n name)
 numbered_more name k v ms rest o new n next opens added is =
@@ -43,7 +43,7 @@ numbered_more name k v ms rest o new n next opens added is =
     ∙ ap (λ xs. unwrap_or o (number_within xs n name)) (sym opens)
 
 -- how many shapes there are, when one more entry has its own
-pub counted_more : (k : List ℕ) (v : Value) (ms rest : Members (Unit {0})) (n next : ℕ)
+pub counted_more : (k : List ℕ) (v : Value) (ms rest : Fields) (n next : ℕ)
     → ms ≡ member k v rest → next ≡ n + count_of v
     → next + length (entries_shapes (λ name. 0) rest 0 next) ≡ n + length (entries_shapes (λ name. 0) ms 0 n)
 counted_more k v ms rest n next opens is =

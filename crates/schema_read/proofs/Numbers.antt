@@ -1,7 +1,7 @@
 -- The number of a name that is known is that of one of the types.
 use Rattle.std.proofs.Common.{◌≡◌, ℕ, ◌+◌, ◌<◌, List, [], ◌++◌, length, true, false, is_some, if◌then◌else◌, Some, arith, length-append}
 use Rattle.std.specs.Str.{bytes_eq}
-use Rattle.snap_core.specs.Value.{Members, no_members, member, value_at}
+use Rattle.snap_core.specs.Value.{no_members, member, value_at, Fields}
 use Rattle.type_core.specs.declared.shape.Shape.{Shape}
 use Rattle.schema_form.specs.Forms.{has_key}
 use Rattle.schema_form.specs.Faults.{member_faults, named_faults}
@@ -10,7 +10,7 @@ use Rattle.schema_read.proofs.Counts.{as_many-entry}
 use Rattle.schema_read.proofs.Formed.{entries_parts}
 use Rattle.schema_read.proofs.PlaceCounts.{entry-some}
 
-pub number_within-below : (types : Members (Unit {0})) (numbers : Numbers) (ms : Members (Unit {0})) (m n : ℕ) (name : List ℕ)
+pub number_within-below : (types : Fields) (numbers : Numbers) (ms : Fields) (m n : ℕ) (name : List ℕ)
     → member_faults (named_faults types) ms ≡ [] → has_key name ms ≡ true → number_within ms n name < n + length (entries_shapes numbers ms m n)
 number_within-below types numbers no_members m n name h known = cc
 number_within-below types numbers (member k v ms) m n name h known =
@@ -27,6 +27,6 @@ number_within-below types numbers (member k v ms) m n name h known =
       | false ↦ λ e. rw same (let later = number_within-below types numbers ms (next_model m v) (n + length first) name none.3 e in omega arith)
     ] known
 
-pub numbers_of-below : (types : Members (Unit {0})) (name : List ℕ) → member_faults (named_faults types) types ≡ [] → has_key name types ≡ true
+pub numbers_of-below : (types : Fields) (name : List ℕ) → member_faults (named_faults types) types ≡ [] → has_key name types ≡ true
     → numbers_of types name < length (expression_shapes types)
 numbers_of-below types name h known = let below = number_within-below types (numbers_of types) types 0 0 name h known in omega arith

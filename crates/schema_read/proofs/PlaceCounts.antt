@@ -2,7 +2,7 @@
 use Rattle.std.proofs.Common.{◌≡◌, ℕ, suc, ◌+◌, ◌<◌, List, [], ◌∷◌, length, get_or, slice_get, codes, decimal, Some, refl, sym, ap, ◌∙◌, inl, inr, arith, length-append}
 use Rattle.std.proofs.lemmas.List.{length-map}
 use Rattle.std.proofs.lemmas.Option.{slice_get-get_or}
-use Rattle.snap_core.specs.Value.{Value, text, dict, Parts, no_parts, part, Members, no_members, member}
+use Rattle.snap_core.specs.Value.{Value, text, dict, no_parts, part, no_members, member, Items, Fields}
 use Rattle.pointer_core.specs.Path.{Path}
 use Rattle.pointer_core.specs.declared.schema_rule.SchemaRule.TheVariants.{Shape}
 use Rattle.type_core.specs.declared.shape.Shape.{Shape as TypeShape}
@@ -21,7 +21,7 @@ length-below token ps = length-map ps (λ p. token ∷ p)
 abbrev pub AreAsPlaces : Value → Type 0
 AreAsPlaces v = (numbers : Numbers) (n : ℕ) → length (shapes_of numbers v n) ≡ length (type_places v)
 
-length-parts : (numbers : Numbers) (ps : Parts (Unit {0})) → Each AreAsPlaces ps → (n i : ℕ)
+length-parts : (numbers : Numbers) (ps : Items) → Each AreAsPlaces ps → (n i : ℕ)
     → length (in_turn (part_shapes numbers ps) n) ≡ length (numbered i (part_places ps))
 length-parts numbers no_parts each n i = refl
 length-parts numbers (part v ps) each n i =
@@ -31,7 +31,7 @@ length-parts numbers (part v ps) each n i =
     let more : length rest ≡ length (numbered (i + 1) (part_places ps)) = length-parts numbers ps each.1 (n + length first) (i + 1) in
     omega (arith, length-append first rest, length-append (below (decimal i) (type_places v)) (numbered (i + 1) (part_places ps)), length-below (decimal i) (type_places v))
 
-steps : (types : Members (Unit {0})) → Steps types AreAsPlaces
+steps : (types : Fields) → Steps types AreAsPlaces
 steps types = record {
   of_word = λ s known numbers n. refl;
   of_around = λ a k v e one numbers n. rw e (ap (λ l. suc l) (one numbers (n + 1) ∙ sym (length-below k (type_places v))));
@@ -44,21 +44,21 @@ steps types = record {
   of_refinement = λ a b k s cs e known numbers n. rw e;
 }
 
-pub length-type_places : (types : Members (Unit {0})) (numbers : Numbers) (v : Value) (key : List Fault) (n : ℕ) → type_faults types v key ≡ []
+pub length-type_places : (types : Fields) (numbers : Numbers) (v : Value) (key : List Fault) (n : ℕ) → type_faults types v key ≡ []
     → length (shapes_of numbers v n) ≡ length (type_places v)
 length-type_places types numbers v key n h = of_type types AreAsPlaces (steps types) v key h numbers n
 
-places-some : (types : Members (Unit {0})) (v : Value) (key : List Fault) → type_faults types v key ≡ [] → 0 < length (type_places v)
+places-some : (types : Fields) (v : Value) (key : List Fault) → type_faults types v key ≡ [] → 0 < length (type_places v)
 places-some types (text s) key h = omega arith
 places-some types (dict a (member k v no_members)) key h = omega arith
 places-some types v key h = absurd (here_some Shape h)
 
 -- a type expression is at least one type
-pub shapes-some : (types : Members (Unit {0})) (numbers : Numbers) (v : Value) (key : List Fault) (n : ℕ) → type_faults types v key ≡ []
+pub shapes-some : (types : Fields) (numbers : Numbers) (v : Value) (key : List Fault) (n : ℕ) → type_faults types v key ≡ []
     → 0 < length (shapes_of numbers v n)
 shapes-some types numbers v key n h = omega (arith, length-type_places types numbers v key n h, places-some types v key h)
 
-length-property_places : (types : Members (Unit {0})) (numbers : Numbers) (ms : Members (Unit {0})) (n : ℕ) → member_faults (property_faults types) ms ≡ []
+length-property_places : (types : Fields) (numbers : Numbers) (ms : Fields) (n : ℕ) → member_faults (property_faults types) ms ≡ []
     → length (in_turn (value_shapes numbers ms) n) ≡ length (property_places ms)
 length-property_places types numbers no_members n h = refl
 length-property_places types numbers (member k v ms) n h =
@@ -69,7 +69,7 @@ length-property_places types numbers (member k v ms) n h =
     let more : length rest ≡ length (property_places ms) = length-property_places types numbers ms (n + length first) none.2 in
     omega (arith, length-append first rest, length-append (below k (type_places v)) (property_places ms), length-below k (type_places v))
 
-pub length-entry_places : (types : Members (Unit {0})) (numbers : Numbers) (m : ℕ) (v : Value) (key : List Fault) (n : ℕ) → entry_faults types v key ≡ []
+pub length-entry_places : (types : Fields) (numbers : Numbers) (m : ℕ) (v : Value) (key : List Fault) (n : ℕ) → entry_faults types v key ≡ []
     → length (entry_shapes numbers m v n) ≡ length (entry_places (model_in v) v)
 length-entry_places types numbers m v key n h = elim (entry_cases types v key h) [
   | inl c ↦
@@ -78,18 +78,18 @@ length-entry_places types numbers m v key n h = elim (entry_cases types v key h)
   | inr c ↦ rw c.0 (length-type_places types numbers v key n c.1)
 ]
 
-entry_places-some : (types : Members (Unit {0})) (v : Value) (key : List Fault) → entry_faults types v key ≡ [] → 0 < length (entry_places (model_in v) v)
+entry_places-some : (types : Fields) (v : Value) (key : List Fault) → entry_faults types v key ≡ [] → 0 < length (entry_places (model_in v) v)
 entry_places-some types v key h = elim (entry_cases types v key h) [
   | inl c ↦ rw c.1 (omega arith)
   | inr c ↦ rw c.0 (places-some types v key c.1)
 ]
 
 -- so is an entry
-pub entry-some : (types : Members (Unit {0})) (numbers : Numbers) (m : ℕ) (v : Value) (key : List Fault) (n : ℕ) → entry_faults types v key ≡ []
+pub entry-some : (types : Fields) (numbers : Numbers) (m : ℕ) (v : Value) (key : List Fault) (n : ℕ) → entry_faults types v key ≡ []
     → 0 < length (entry_shapes numbers m v n)
 entry-some types numbers m v key n h = omega (arith, length-entry_places types numbers m v key n h, entry_places-some types v key h)
 
-pub length-entries_places : (types : Members (Unit {0})) (numbers : Numbers) (m : ℕ) (ms : Members (Unit {0})) (n : ℕ) → member_faults (named_faults types) ms ≡ []
+pub length-entries_places : (types : Fields) (numbers : Numbers) (m : ℕ) (ms : Fields) (n : ℕ) → member_faults (named_faults types) ms ≡ []
     → length (entries_shapes numbers ms m n) ≡ length (entries_places ms)
 length-entries_places types numbers m no_members n h = refl
 length-entries_places types numbers m (member k v ms) n h =
@@ -100,10 +100,10 @@ length-entries_places types numbers m (member k v ms) n h =
     let more : length rest ≡ length (entries_places ms) = length-entries_places types numbers (next_model m v) ms (n + length first) none.3 in
     omega (arith, length-append first rest, length-append (below k (entry_places (model_in v) v)) (entries_places ms), length-below k (entry_places (model_in v) v))
 
-pub length-places_of : (types : Members (Unit {0})) → member_faults (named_faults types) types ≡ [] → length (places_of types) ≡ length (expression_shapes types)
+pub length-places_of : (types : Fields) → member_faults (named_faults types) types ≡ [] → length (places_of types) ≡ length (expression_shapes types)
 length-places_of types h = length-below (codes "types") (entries_places types) ∙ sym (length-entries_places types (numbers_of types) 0 types 0 h)
 
 -- each type of an expression has its place
-pub place_at : (types : Members (Unit {0})) (t : ℕ) → member_faults (named_faults types) types ≡ [] → t < length (expression_shapes types)
+pub place_at : (types : Fields) (t : ℕ) → member_faults (named_faults types) types ≡ [] → t < length (expression_shapes types)
     → (path : Path) × (slice_get (places_of types) t ≡ Some path)
 place_at types t h within = (get_or (places_of types) t [], slice_get-get_or (places_of types) t [] (omega (arith, length-places_of types h)))

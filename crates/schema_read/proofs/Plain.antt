@@ -1,6 +1,6 @@
 -- Values in order without a fault in their numbers are plain.
 use Rattle.std.proofs.Common.{◌≡◌, ℕ, ◌+◌, [], decimal, sym, subst}
-use Rattle.snap_core.specs.Value.{Value, null, boolean, integer, text, list, dict, Parts, no_parts, part, Members, no_members, member, is_whole, IsPlain, ArePlain, ArePlainMembers, IsOrdered, AreOrdered, AreOrderedMembers}
+use Rattle.snap_core.specs.Value.{Value, null, boolean, integer, text, list, dict, no_parts, part, no_members, member, is_whole, IsPlain, ArePlain, ArePlainMembers, IsOrdered, AreOrdered, AreOrderedMembers, Items, Fields}
 use Rattle.snap_core.specs.View.{view}
 use Rattle.snap_core.specs.Unview.{snap_of}
 use Rattle.snap_core.proofs.Views.{view-snap_of}
@@ -17,13 +17,13 @@ mutual
   IsPlain-ordered (list a ps) ordered h = ArePlain-ordered 0 ps ordered h
   IsPlain-ordered (dict a ms) ordered h = ArePlainMembers-ordered ms ordered h
 
-  ArePlain-ordered : (i : ℕ) (ps : Parts (Unit {0})) → AreOrdered ps → items_numbers i ps ≡ [] → ArePlain ps
+  ArePlain-ordered : (i : ℕ) (ps : Items) → AreOrdered ps → items_numbers i ps ≡ [] → ArePlain ps
   ArePlain-ordered i no_parts ordered h = tt
   ArePlain-ordered i (part v ps) ordered h =
       let none = append_none (under (decimal i) (number_faults v)) (items_numbers (i + 1) ps) h in
       (IsPlain-ordered v ordered.0 (under_none (decimal i) (number_faults v) none.0), ArePlain-ordered (i + 1) ps ordered.1 none.1)
 
-  ArePlainMembers-ordered : (ms : Members (Unit {0})) → AreOrderedMembers ms → members_numbers ms ≡ [] → ArePlainMembers ms
+  ArePlainMembers-ordered : (ms : Fields) → AreOrderedMembers ms → members_numbers ms ≡ [] → ArePlainMembers ms
   ArePlainMembers-ordered no_members ordered h = tt
   ArePlainMembers-ordered (member k v ms) ordered h =
       let none = append_none (under k (number_faults v)) (members_numbers ms) h in

@@ -3,7 +3,7 @@ use Rattle.std.proofs.Common.{◌≡◌, ℕ, ◌+◌, ◌<◌, ◌≤◌, List,
 use Rattle.std.specs.Prelude.{All}
 use Rattle.std.proofs.lemmas.List.Elements.{All-nil, All-cons}
 use Rattle.snap_core.specs.Name.{is_name}
-use Rattle.snap_core.specs.Value.{Value, Members, no_members, member, IsOrdered, AreOrderedMembers, ComesBefore, keys_of}
+use Rattle.snap_core.specs.Value.{Value, no_members, member, IsOrdered, AreOrderedMembers, ComesBefore, keys_of, Fields}
 use Rattle.type_core.specs.declared.shape.Shape.{Shape}
 use Rattle.type_core.specs.declared.shape.Property.{Property}
 use Rattle.type_core.specs.declared.shape.ModelType.{ModelType}
@@ -22,17 +22,17 @@ pub record IsFit (count : ℕ) (model : ModelType) : Type 0 where
   pub named : AreNamed model.properties
   pub typed : AreTyped count model.properties
 
-ComesBefore-properties_of : (numbers : Numbers) (name : List ℕ) (ps : Members (Unit {0})) (n : ℕ) → ComesBefore name (keys_of ps) → ComesBefore name (names_of (properties_of numbers ps n))
+ComesBefore-properties_of : (numbers : Numbers) (name : List ℕ) (ps : Fields) (n : ℕ) → ComesBefore name (keys_of ps) → ComesBefore name (names_of (properties_of numbers ps n))
 ComesBefore-properties_of numbers name no_members n h = tt
 ComesBefore-properties_of numbers name (member k v ps) n h = h
 
-pub AreNamed-properties_of : (numbers : Numbers) (ps : Members (Unit {0})) (n : ℕ) → AreOrderedMembers ps → AreNamed (properties_of numbers ps n)
+pub AreNamed-properties_of : (numbers : Numbers) (ps : Fields) (n : ℕ) → AreOrderedMembers ps → AreNamed (properties_of numbers ps n)
 AreNamed-properties_of numbers no_members n ordered = tt
 AreNamed-properties_of numbers (member k v ps) n ordered =
     let next : ℕ = n + length (shapes_of numbers v n) in
     (ComesBefore-properties_of numbers k ps next ordered.1, AreNamed-properties_of numbers ps next ordered.2)
 
-pub AreTyped-properties_of : (count : ℕ) (types : Members (Unit {0})) (numbers : Numbers) (ps : Members (Unit {0})) (n : ℕ) → member_faults (property_faults types) ps ≡ []
+pub AreTyped-properties_of : (count : ℕ) (types : Fields) (numbers : Numbers) (ps : Fields) (n : ℕ) → member_faults (property_faults types) ps ≡ []
     → n + length (in_turn (value_shapes numbers ps) n) ≤ count → AreTyped count (properties_of numbers ps n)
 AreTyped-properties_of count types numbers no_members n h end = All-nil (λ (p : Property). p.of.0 < count)
 AreTyped-properties_of count types numbers (member k v ps) n h end =
@@ -44,7 +44,7 @@ AreTyped-properties_of count types numbers (member k v ps) n h end =
     All-cons (λ (p : Property). p.of.0 < count) (record { name = k; of = type_no n }) (properties_of numbers ps (n + length first)) (omega arith)
     (AreTyped-properties_of count types numbers ps (n + length first) none.2 (omega arith))
 
-pub names-properties_of : (types : Members (Unit {0})) (numbers : Numbers) (ps : Members (Unit {0})) (n : ℕ) → member_faults (property_faults types) ps ≡ []
+pub names-properties_of : (types : Fields) (numbers : Numbers) (ps : Fields) (n : ℕ) → member_faults (property_faults types) ps ≡ []
     → All (λ (p : Property). IsTrue (is_name p.name)) (properties_of numbers ps n)
 names-properties_of types numbers no_members n h = All-nil (λ (p : Property). IsTrue (is_name p.name))
 names-properties_of types numbers (member k v ps) n h =
@@ -53,7 +53,7 @@ names-properties_of types numbers (member k v ps) n h =
     All-cons (λ (p : Property). IsTrue (is_name p.name)) (record { name = k; of = type_no n }) (properties_of numbers ps next) none.0
     (names-properties_of types numbers ps next none.2)
 
-pub IsFit-model : (count : ℕ) (types : Members (Unit {0})) (numbers : Numbers) (name : List ℕ) (ps : Members (Unit {0})) (n own : ℕ) → IsTrue (is_name name)
+pub IsFit-model : (count : ℕ) (types : Fields) (numbers : Numbers) (name : List ℕ) (ps : Fields) (n own : ℕ) → IsTrue (is_name name)
     → member_faults (property_faults types) ps ≡ [] → AreOrderedMembers ps → n + length (in_turn (value_shapes numbers ps) n) ≤ count
     → IsFit count (record { name = name; properties = properties_of numbers ps n; own = type_no own })
 IsFit-model count types numbers name ps n own is h ordered end = record {
@@ -63,7 +63,7 @@ IsFit-model count types numbers name ps n own is h ordered end = record {
   typed = AreTyped-properties_of count types numbers ps n h end;
 }
 
-IsFit-entry : (count : ℕ) (types : Members (Unit {0})) (numbers : Numbers) (name : List ℕ) (v : Value) (key : List Fault) (m n own : ℕ) (rest : List ModelType)
+IsFit-entry : (count : ℕ) (types : Fields) (numbers : Numbers) (name : List ℕ) (v : Value) (key : List Fault) (m n own : ℕ) (rest : List ModelType)
     → IsTrue (is_name name) → entry_faults types v key ≡ [] → IsOrdered v → n + length (entry_shapes numbers m v n) ≤ count
     → All (IsFit count) rest → All (IsFit count) (model_before name numbers n own (model_in v) rest)
 IsFit-entry count types numbers name v key m n own rest is h ordered end others = elim (entry_cases types v key h) [
@@ -74,7 +74,7 @@ IsFit-entry count types numbers name v key m n own rest is h ordered end others 
   | inr c ↦ rw c.0 others
 ]
 
-pub AreFit-models_of : (count : ℕ) (types : Members (Unit {0})) (numbers : Numbers) (ms : Members (Unit {0})) (first m n : ℕ) → member_faults (named_faults types) ms ≡ [] → AreOrderedMembers ms
+pub AreFit-models_of : (count : ℕ) (types : Fields) (numbers : Numbers) (ms : Fields) (first m n : ℕ) → member_faults (named_faults types) ms ≡ [] → AreOrderedMembers ms
     → n + length (entries_shapes numbers ms m n) ≤ count → All (IsFit count) (models_of numbers ms first m n)
 AreFit-models_of count types numbers no_members first m n h ordered end = All-nil (IsFit count)
 AreFit-models_of count types numbers (member k v ms) first m n h ordered end =
@@ -86,7 +86,7 @@ AreFit-models_of count types numbers (member k v ms) first m n h ordered end =
     (AreFit-models_of count types numbers ms first (next_model m v) (n + length one) none.3 ordered.2 (omega arith))
 
 -- each model is fit where there are at least the types of the expressions
-pub AreFit-models_in : (types : Members (Unit {0})) (count : ℕ) → member_faults (named_faults types) types ≡ [] → AreOrderedMembers types → length (expression_shapes types) ≤ count
+pub AreFit-models_in : (types : Fields) (count : ℕ) → member_faults (named_faults types) types ≡ [] → AreOrderedMembers types → length (expression_shapes types) ≤ count
     → All (IsFit count) (models_in types)
 AreFit-models_in types count h ordered long =
     AreFit-models_of count types (numbers_of types) types (length (expression_shapes types)) 0 0 h ordered (omega arith)

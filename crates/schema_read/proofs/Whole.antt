@@ -5,7 +5,7 @@ use Rattle.std.specs.Option.{option_map}
 use Rattle.std.specs.Str.{bytes_eq}
 use Rattle.std.proofs.lemmas.List.Elements.{All-nil, All-cons, All-append, All-weaker}
 use Rattle.std.proofs.lemmas.Option.{same_Some}
-use Rattle.snap_core.specs.Value.{Value, dict, Members, no_members, member, IsOrdered, AreOrderedMembers}
+use Rattle.snap_core.specs.Value.{Value, dict, no_members, member, IsOrdered, AreOrderedMembers, Fields}
 use Rattle.type_core.specs.declared.shape.Shape.{Shape}
 use Rattle.type_core.specs.declared.shape.Shape.TheVariants as shape
 use Rattle.type_core.specs.declared.shape.ModelType.{ModelType}
@@ -24,17 +24,17 @@ AreOrderedMembers-properties_in : (v : Value) → IsOrdered v → AreOrderedMemb
 AreOrderedMembers-properties_in (dict a (member k (dict b ms) no_members)) ordered = ordered.0
 AreOrderedMembers-properties_in v ordered = tt
 
-pub AreOrderedMembers-model_in : (v : Value) (ps : Members (Unit {0})) → model_in v ≡ Some ps → IsOrdered v → AreOrderedMembers ps
+pub AreOrderedMembers-model_in : (v : Value) (ps : Fields) → model_in v ≡ Some ps → IsOrdered v → AreOrderedMembers ps
 AreOrderedMembers-model_in (dict a (member k v no_members)) ps h ordered =
     elim (bytes_eq k (codes "model")) as (λ b. option_map properties_in (if b then Some v else None) ≡ Some ps → AreOrderedMembers ps) [
       | true ↦ λ e. let same : properties_in v ≡ ps = same_Some (properties_in v) ps e in
-          let P : Members (Unit {0}) → Type 0 = AreOrderedMembers in subst P same (AreOrderedMembers-properties_in v ordered.0)
+          let P : Fields → Type 0 = AreOrderedMembers in subst P same (AreOrderedMembers-properties_in v ordered.0)
       | false ↦ λ e. cc
     ] h
 AreOrderedMembers-model_in v ps h ordered = cc
 
-module _ (count : ℕ) (models : List ModelType) (types : Members (Unit {0})) (numbers : Numbers) (known : (s : List ℕ) → has_key s types ≡ true → numbers s < count) where
-  pub EachFit-value_shapes : (ps : Members (Unit {0})) → member_faults (property_faults types) ps ≡ [] → AreOrderedMembers ps → EachFit count models (value_shapes numbers ps)
+module _ (count : ℕ) (models : List ModelType) (types : Fields) (numbers : Numbers) (known : (s : List ℕ) → has_key s types ≡ true → numbers s < count) where
+  pub EachFit-value_shapes : (ps : Fields) → member_faults (property_faults types) ps ≡ [] → AreOrderedMembers ps → EachFit count models (value_shapes numbers ps)
   EachFit-value_shapes no_members h ordered = tt
   EachFit-value_shapes (member k v ms) h ordered =
       let none = property_parts types k v ms h in
@@ -54,7 +54,7 @@ module _ (count : ℕ) (models : List ModelType) (types : Members (Unit {0})) (n
         rw c.0 ((AreFit-shapes_of count models types numbers known v key c.1 ordered).within n room)
   ]
 
-  pub entries_within : (ms : Members (Unit {0})) (m n : ℕ) → member_faults (named_faults types) ms ≡ [] → AreOrderedMembers ms
+  pub entries_within : (ms : Fields) (m n : ℕ) → member_faults (named_faults types) ms ≡ [] → AreOrderedMembers ms
       → n + length (entries_shapes numbers ms m n) ≤ count → m + model_count ms ≤ length models → AreWithin count models (entries_shapes numbers ms m n)
   entries_within no_members m n h ordered end last = All-nil (IsWithin count models)
   entries_within (member k v ms) m n h ordered end last =
@@ -67,7 +67,7 @@ module _ (count : ℕ) (models : List ModelType) (types : Members (Unit {0})) (n
       (entry_within v _ m n none.2 ordered.0 (omega arith) (omega arith))
       (entries_within ms (next_model m v) (n + length first) none.3 ordered.2 (omega arith) (omega arith))
 
-pub AreWithin-expression_shapes : (types : Members (Unit {0})) (count : ℕ) (models : List ModelType) → member_faults (named_faults types) types ≡ [] → AreOrderedMembers types
+pub AreWithin-expression_shapes : (types : Fields) (count : ℕ) (models : List ModelType) → member_faults (named_faults types) types ≡ [] → AreOrderedMembers types
     → length (expression_shapes types) ≤ count → length (models_in types) ≤ length models → AreWithin count models (expression_shapes types)
 AreWithin-expression_shapes types count models h ordered long many =
     let numbers : Numbers = numbers_of types in
@@ -76,7 +76,7 @@ AreWithin-expression_shapes types count models h ordered long many =
     (omega (arith, length-models_of numbers types (length (expression_shapes types)) 0 0))
 
 -- the shapes of a plan that has the types and the models
-pub AreShapesOf : (types : Members (Unit {0})) (p : Plan) → member_faults (named_faults types) types ≡ [] → AreOrderedMembers types
+pub AreShapesOf : (types : Fields) (p : Plan) → member_faults (named_faults types) types ≡ [] → AreOrderedMembers types
     → length (expression_shapes types) ≤ length p.shapes → length (models_in types) ≤ length p.models → All (IsShapeOf p) (expression_shapes types)
 AreShapesOf types p h ordered long many =
     All-weaker (IsWithin (length p.shapes) p.models) (IsShapeOf p) (λ s w. record { model = w.model; types = w.types; plain = w.plain }) (expression_shapes types)

@@ -3,7 +3,7 @@ use Rattle.std.proofs.Common.{◌≡◌, ℕ, ◌+◌, ◌<◌, ◌≤◌, List,
 use Rattle.std.specs.Prelude.{All}
 use Rattle.std.specs.Str.{bytes_eq}
 use Rattle.std.proofs.lemmas.List.Elements.{All-nil, All-cons, All-append}
-use Rattle.snap_core.specs.Value.{Value, text, list, dict, Parts, no_parts, part, Members, no_members, member, IsOrdered, AreOrdered}
+use Rattle.snap_core.specs.Value.{Value, text, list, dict, no_parts, part, no_members, member, IsOrdered, AreOrdered, Items, Fields}
 use Rattle.snap_core.specs.Unview.{snap_of}
 use Rattle.snap_core.specs.declared.number.TypeNo.{TypeNo}
 use Rattle.type_core.specs.declared.shape.Shape.{Shape}
@@ -122,7 +122,7 @@ module _ (count : ℕ) (models : List ModelType) where
         (in_turn_within ss (n + 1) each (omega arith));
   }
 
-  module _ (types : Members (Unit {0})) (numbers : Numbers) (known : (s : List ℕ) → has_key s types ≡ true → numbers s < count) where
+  module _ (types : Fields) (numbers : Numbers) (known : (s : List ℕ) → has_key s types ≡ true → numbers s < count) where
     abbrev IsFit : Value → Type 0
     IsFit v = IsOrdered v → AreFit count models (shapes_of numbers v)
 
@@ -135,7 +135,7 @@ module _ (count : ℕ) (models : List ModelType) where
         let P : Form → Type 0 = λ f. AreFit count models (form_shapes k f v (shapes_of numbers v) (item_shapes numbers v)) in
         subst P (sym e) h
 
-    parts_fit : (ps : Parts (Unit {0})) → Each IsFit ps → AreOrdered ps → EachFit (part_shapes numbers ps)
+    parts_fit : (ps : Items) → Each IsFit ps → AreOrdered ps → EachFit (part_shapes numbers ps)
     parts_fit no_parts each ordered = tt
     parts_fit (part v ps) each ordered = (each.0 ordered.0, parts_fit ps each.1 ordered.1)
 

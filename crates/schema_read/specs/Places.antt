@@ -1,6 +1,6 @@
 -- Where the type expressions of a schema file stand, in document order.
 use Rattle.std.specs.Prelude.{ℕ, ◌+◌, List, [], ◌∷◌, ◌++◌, map, codes, decimal, Option, Some, None}
-use Rattle.snap_core.specs.Value.{Value, text, list, dict, Parts, no_parts, part, Members, no_members, member}
+use Rattle.snap_core.specs.Value.{Value, text, list, dict, no_parts, part, no_members, member, Items, Fields}
 use Rattle.pointer_core.specs.Path.{Path}
 use Rattle.schema_form.specs.declared.words.Form.{Form}
 use Rattle.schema_form.specs.declared.words.Form.TheVariants.{Optional, Union, Refinement, Around}
@@ -35,24 +35,24 @@ abbrev mutual
   item_places (list a ps) = part_places ps
   item_places _ = []
 
-  pub part_places : Parts (Unit {0}) → List (List Path)
+  pub part_places : Items → List (List Path)
   part_places no_parts = []
   part_places (part v ps) = type_places v ∷ part_places ps
 
 -- those of a model's properties
-abbrev pub property_places : Members (Unit {0}) → List Path
+abbrev pub property_places : Fields → List Path
 property_places no_members = []
 property_places (member k v ms) = below k (type_places v) ++ property_places ms
 
 -- those of an entry of the types
-abbrev pub entry_places : Option (Members (Unit {0})) → Value → List Path
+abbrev pub entry_places : Option Fields → Value → List Path
 entry_places (Some ps) v = [] ∷ below (codes "model") (below (codes "properties") (property_places ps))
 entry_places None v = type_places v
 
-abbrev pub entries_places : Members (Unit {0}) → List Path
+abbrev pub entries_places : Fields → List Path
 entries_places no_members = []
 entries_places (member k v ms) = below k (entry_places (model_in v) v) ++ entries_places ms
 
 -- the places of all type expressions in a file with these types
-abbrev pub places_of : Members (Unit {0}) → List Path
+abbrev pub places_of : Fields → List Path
 places_of types = below (codes "types") (entries_places types)

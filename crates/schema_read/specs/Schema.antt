@@ -1,6 +1,6 @@
 -- Schema files: which schema a file is, and which fault of it comes first.
 use Rattle.std.specs.Prelude.{◌≡◌, ℕ, ℤ, pos, List, [], ◌∷◌, codes, slice_get, Option, Some, None, IsSomeAnd}
-use Rattle.snap_core.specs.Value.{Value, integer, text, Members, value_at}
+use Rattle.snap_core.specs.Value.{Value, integer, text, value_at, Fields}
 use Rattle.snap_core.specs.declared.number.ModelNo.{ModelNo}
 use Rattle.pointer_core.specs.Path.{Path}
 use Rattle.pointer_core.specs.declared.schema_rule.SchemaRule.{SchemaRule}
@@ -15,7 +15,7 @@ use Rattle.schema_read.specs.Types.{table_of, model_within}
 use Rattle.schema_read.specs.Places.{places_of}
 
 -- the model that the root names
-abbrev pub root_in : Members (Unit {0}) → Option Value → Option ModelNo
+abbrev pub root_in : Fields → Option Value → Option ModelNo
 root_in types (Some (text s)) = model_within types 0 s
 root_in types _ = None
 

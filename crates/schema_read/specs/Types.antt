@@ -2,7 +2,7 @@
 use Rattle.std.specs.Prelude.{ℕ, ◌+◌, List, [], ◌∷◌, ◌++◌, length, codes, Option, Some, None, if◌then◌else◌}
 use Rattle.std.specs.Option.{option_map}
 use Rattle.std.specs.Str.{bytes_eq}
-use Rattle.snap_core.specs.Value.{Value, integer, text, list, dict, Parts, no_parts, part, Members, no_members, member}
+use Rattle.snap_core.specs.Value.{Value, integer, text, list, dict, no_parts, part, no_members, member, Items, Fields}
 use Rattle.snap_core.specs.Unview.{snap_of}
 use Rattle.snap_core.specs.declared.number.TypeNo.{TypeNo}
 use Rattle.snap_core.specs.declared.number.ModelNo.{ModelNo}
@@ -46,7 +46,7 @@ around_shape key u =
 -- the texts of a list
 abbrev pub texts_of : Value → List (List ℕ)
 texts_of (list a ps) = texts_in ps where
-  texts_in : Parts (Unit {0}) → List (List ℕ)
+  texts_in : Items → List (List ℕ)
   texts_in no_parts = []
   texts_in (part (text s) ps) = s ∷ texts_in ps
   texts_in (part v ps) = texts_in ps
@@ -65,7 +65,7 @@ condition_of key _ = []
 
 abbrev pub conditions_of : Value → List Condition
 conditions_of (dict a ms) = conditions_in ms where
-  conditions_in : Members (Unit {0}) → List Condition
+  conditions_in : Fields → List Condition
   conditions_in no_members = []
   conditions_in (member k v ms) = condition_of k v ++ conditions_in ms
 conditions_of _ = []
@@ -105,28 +105,28 @@ abbrev mutual
   item_shapes numbers (list a ps) = part_shapes numbers ps
   item_shapes numbers _ = []
 
-  pub part_shapes : Numbers → Parts (Unit {0}) → List Shapes
+  pub part_shapes : Numbers → Items → List Shapes
   part_shapes numbers no_parts = []
   part_shapes numbers (part v ps) = shapes_of numbers v ∷ part_shapes numbers ps
 
 -- the types of a record's values
-abbrev pub value_shapes : Numbers → Members (Unit {0}) → List Shapes
+abbrev pub value_shapes : Numbers → Fields → List Shapes
 value_shapes numbers no_members = []
 value_shapes numbers (member k v ms) = shapes_of numbers v ∷ value_shapes numbers ms
 
 -- the properties of a model: a record of type expressions
-abbrev pub properties_in : Value → Members (Unit {0})
+abbrev pub properties_in : Value → Fields
 properties_in (dict a (member k (dict b ms) no_members)) = ms
 properties_in _ = no_members
 
 -- the properties of an entry that is a model
-abbrev pub model_in : Value → Option (Members (Unit {0}))
+abbrev pub model_in : Value → Option Fields
 model_in v = option_map properties_in (forms.model_in v)
 
 -- the shapes of an entry of the types, the next model having this number
 abbrev pub entry_shapes : Numbers → ℕ → Value → Shapes
 entry_shapes numbers m v n = by_model (model_in v) where
-  by_model : Option (Members (Unit {0})) → List Shape
+  by_model : Option Fields → List Shape
   by_model (Some ps) = shape.Model (record { 0 = m }) ∷ in_turn (value_shapes numbers ps) (n + 1)
   by_model None = shapes_of numbers v n
 
@@ -137,36 +137,36 @@ count_of v = length (entry_shapes (λ name. 0) 0 v 0)
 -- the number of the model after an entry
 abbrev pub next_model : ℕ → Value → ℕ
 next_model m v = by_model (model_in v) where
-  by_model : Option (Members (Unit {0})) → ℕ
+  by_model : Option Fields → ℕ
   by_model (Some ps) = m + 1
   by_model None = m
 
 -- the shapes of the entries
-abbrev pub entries_shapes : Numbers → Members (Unit {0}) → ℕ → Shapes
+abbrev pub entries_shapes : Numbers → Fields → ℕ → Shapes
 entries_shapes numbers no_members m n = []
 entries_shapes numbers (member k v ms) m n =
     entry_shapes numbers m v n ++ entries_shapes numbers ms (next_model m v) (n + length (entry_shapes numbers m v n))
 
 -- the number of the type that a name stands for: how many type expressions stand before its own
-abbrev pub number_within : Members (Unit {0}) → ℕ → Numbers
+abbrev pub number_within : Fields → ℕ → Numbers
 number_within no_members n name = n
 number_within (member k v ms) n name = if bytes_eq name k then n else number_within ms (n + count_of v) name
 
-abbrev pub numbers_of : Members (Unit {0}) → Numbers
+abbrev pub numbers_of : Fields → Numbers
 numbers_of types name = number_within types 0 name
 
 -- the properties of a model, the types of which begin at a number
-abbrev pub properties_of : Numbers → Members (Unit {0}) → ℕ → List Property
+abbrev pub properties_of : Numbers → Fields → ℕ → List Property
 properties_of numbers no_members n = []
 properties_of numbers (member k v ms) n = record { name = k; of = type_no n } ∷ properties_of numbers ms (n + length (shapes_of numbers v n))
 
 -- a model in front of the others, if the entry is one: its types begin at number n, and its own type has number own
-abbrev pub model_before : List ℕ → Numbers → ℕ → ℕ → Option (Members (Unit {0})) → List ModelType → List ModelType
+abbrev pub model_before : List ℕ → Numbers → ℕ → ℕ → Option Fields → List ModelType → List ModelType
 model_before name numbers n own (Some ps) rest = record { name = name; properties = properties_of numbers ps (n + 1); own = type_no own } ∷ rest
 model_before name numbers n own None rest = rest
 
 -- the models of these entries, where the next model has number m, the next type number n, and the first model's own type number first
-abbrev pub models_of : Numbers → Members (Unit {0}) → ℕ → ℕ → ℕ → List ModelType
+abbrev pub models_of : Numbers → Fields → ℕ → ℕ → ℕ → List ModelType
 models_of numbers no_members first m n = []
 models_of numbers (member k v ms) first m n =
     model_before k numbers n (first + m) (model_in v) (models_of numbers ms first (next_model m v) (n + length (entry_shapes numbers m v n)))
@@ -177,19 +177,19 @@ own_shapes m [] = []
 own_shapes m (model ∷ models) = shape.Model (record { 0 = m }) ∷ own_shapes (m + 1) models
 
 -- the shapes of the type expressions of these entries
-abbrev pub expression_shapes : Members (Unit {0}) → List Shape
+abbrev pub expression_shapes : Fields → List Shape
 expression_shapes types = entries_shapes (numbers_of types) types 0 0
 
-abbrev pub models_in : Members (Unit {0}) → List ModelType
+abbrev pub models_in : Fields → List ModelType
 models_in types = models_of (numbers_of types) types (length (expression_shapes types)) 0 0
 
-abbrev pub table_of : Members (Unit {0}) → Table
+abbrev pub table_of : Fields → Table
 table_of types = record { shapes = expression_shapes types ++ own_shapes 0 (models_in types); models = models_in types }
 
 -- the number of the model of a name, if that entry is a model
-abbrev pub model_within : Members (Unit {0}) → ℕ → List ℕ → Option ModelNo
+abbrev pub model_within : Fields → ℕ → List ℕ → Option ModelNo
 model_within no_members m name = None
 model_within (member k v ms) m name = if bytes_eq name k then found (model_in v) else model_within ms (next_model m v) name where
-  found : Option (Members (Unit {0})) → Option ModelNo
+  found : Option Fields → Option ModelNo
   found (Some ps) = Some (record { 0 = m })
   found None = None

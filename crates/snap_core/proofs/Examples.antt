@@ -2,7 +2,7 @@
 use Rattle.std.proofs.Common.{◌≡◌, List, [], ◌∷◌, Bool, true, false, Some, None, pos, negsuc, refl}
 use Rattle.std.specs.Prelude.{codes, replicate}
 use Rattle.snap_core.specs.Name.{is_name}
-use Rattle.snap_core.specs.Value.{Value, null, integer, text, list, dict, no_parts, part, Members, no_members, member, weight_of, depth_of, is_whole, value_at}
+use Rattle.snap_core.specs.Value.{Value, null, integer, text, list, dict, no_parts, part, no_members, member, weight_of, depth_of, is_whole, value_at, Fields}
 
 -- {"count":0,"focus":null,"team":[],"todos":[],"users":{}}
 document : Value
@@ -52,7 +52,7 @@ unfolding names
 names-are = refl
 
 -- the first entry of a key counts, and a key that isn't there has none
-entries : Members (Unit {0})
+entries : Fields
 entries = member (codes "k") (integer (pos 1)) (member (codes "k") (integer (pos 2)) no_members)
 
 found : value_at (codes "k") entries ≡ Some (integer (pos 1))

@@ -1,18 +1,18 @@
 -- What records with ascending keys have, and what stands under a key of theirs.
 use Rattle.std.proofs.Common.{◌≡◌, ℕ, List, true, false, Some, if◌then◌else◌, subst}
 use Rattle.std.specs.Str.{bytes_eq}
-use Rattle.snap_core.specs.Value.{Value, Members, no_members, member, IsPlain, IsOrdered, ArePlainMembers, AreKeyed, AreOrderedMembers, value_at}
+use Rattle.snap_core.specs.Value.{Value, no_members, member, IsPlain, IsOrdered, ArePlainMembers, AreKeyed, AreOrderedMembers, value_at, Fields}
 
-pub AreKeyed-ascending : (ms : Members (Unit {0})) → ArePlainMembers ms → AreKeyed ms
+pub AreKeyed-ascending : (ms : Fields) → ArePlainMembers ms → AreKeyed ms
 AreKeyed-ascending no_members h = tt
 AreKeyed-ascending (member k v ms) h = (h.1, AreKeyed-ascending ms h.2)
 
-pub AreKeyed-ordered : (ms : Members (Unit {0})) → AreOrderedMembers ms → AreKeyed ms
+pub AreKeyed-ordered : (ms : Fields) → AreOrderedMembers ms → AreKeyed ms
 AreKeyed-ordered no_members h = tt
 AreKeyed-ordered (member k v ms) h = (h.1, AreKeyed-ordered ms h.2)
 
 -- each value in a record is as the record is
-pub IsPlain-value_at : (key : List ℕ) (ms : Members (Unit {0})) (v : Value) → ArePlainMembers ms → value_at key ms ≡ Some v → IsPlain v
+pub IsPlain-value_at : (key : List ℕ) (ms : Fields) (v : Value) → ArePlainMembers ms → value_at key ms ≡ Some v → IsPlain v
 IsPlain-value_at key no_members v plain h = cc
 IsPlain-value_at key (member k w ms) v plain h =
     elim (bytes_eq key k) as (λ b. (if b then Some w else value_at key ms) ≡ Some v → IsPlain v) [
@@ -20,7 +20,7 @@ IsPlain-value_at key (member k w ms) v plain h =
       | false ↦ λ e. IsPlain-value_at key ms v plain.2 e
     ] h
 
-pub IsOrdered-value_at : (key : List ℕ) (ms : Members (Unit {0})) (v : Value) → AreOrderedMembers ms → value_at key ms ≡ Some v → IsOrdered v
+pub IsOrdered-value_at : (key : List ℕ) (ms : Fields) (v : Value) → AreOrderedMembers ms → value_at key ms ≡ Some v → IsOrdered v
 IsOrdered-value_at key no_members v ordered h = cc
 IsOrdered-value_at key (member k w ms) v ordered h =
     elim (bytes_eq key k) as (λ b. (if b then Some w else value_at key ms) ≡ Some v → IsOrdered v) [

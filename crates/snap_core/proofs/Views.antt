@@ -6,7 +6,7 @@ use Rattle.snap_core.specs.declared.snap.Snap.TheFolds.{fold-roll-Snap, fold_out
 use Rattle.snap_core.specs.declared.snap.Snap.TheOpen.{Snap-F, Field-F}
 use Rattle.snap_core.specs.declared.snap.Snap.TheVariants.{rolls-Null, rolls-Bool, rolls-Int, rolls-Text, rolls-List, rolls-Dict}
 use Rattle.snap_core.specs.declared.snap.Field.{Field}
-use Rattle.snap_core.specs.Value.{Value, null, boolean, integer, text, list, dict, Parts, no_parts, part, Members, no_members, member}
+use Rattle.snap_core.specs.Value.{Value, null, boolean, integer, text, list, dict, no_parts, part, no_members, member, Items, Fields}
 use Rattle.snap_core.specs.View.{view, view_step, entry_step, entry, items_view, fields_view}
 use Rattle.snap_core.specs.Unview.{snap_of, items_of, entries_of}
 
@@ -42,11 +42,11 @@ mutual
   view-snap_of (list a ps) = view-List (items_of ps) ∙ ap (list tt) (items_view-items_of ps)
   view-snap_of (dict a ms) = view-Dict (entries_of ms) ∙ ap (dict tt) (fields_view-entries_of ms)
 
-  pub items_view-items_of : (ps : Parts (Unit {0})) → items_view (items_of ps) ≡ ps
+  pub items_view-items_of : (ps : Items) → items_view (items_of ps) ≡ ps
   items_view-items_of no_parts = refl
   items_view-items_of (part v ps) = rw (view-snap_of v, items_view-items_of ps)
 
-  pub fields_view-entries_of : (ms : Members (Unit {0})) → fields_view (entries_of ms) ≡ ms
+  pub fields_view-entries_of : (ms : Fields) → fields_view (entries_of ms) ≡ ms
   fields_view-entries_of no_members = refl
   fields_view-entries_of (member k v ms) = rw (entry-fields (record { key = k; value = snap_of v }), view-snap_of v, fields_view-entries_of ms)
 

@@ -12,22 +12,28 @@ mutual
     boolean : Bool → Tree A
     integer : ℤ → Tree A
     text : List ℕ → Tree A
-    list : A → Parts A → Tree A
-    dict : A → Members A → Tree A
+    list : A → TreeItems A → Tree A
+    dict : A → TreeFields A → Tree A
 
   -- the items of a list, in order
-  pub data Parts (A : Type 0) : Type 0 where
-    no_parts : Parts A
-    part : Tree A → Parts A → Parts A
+  pub data TreeItems (A : Type 0) : Type 0 where
+    no_parts : TreeItems A
+    part : Tree A → TreeItems A → TreeItems A
 
   -- the entries of a record, in order
-  pub data Members (A : Type 0) : Type 0 where
-    no_members : Members A
-    member : List ℕ → Tree A → Members A → Members A
+  pub data TreeFields (A : Type 0) : Type 0 where
+    no_members : TreeFields A
+    member : List ℕ → Tree A → TreeFields A → TreeFields A
 
--- a plain value
+-- a plain value, the items of a plain list, and the fields of a plain record
 abbrev pub Value : Type 0
 Value = Tree (Unit {0})
+
+abbrev pub Items : Type 0
+Items = TreeItems (Unit {0})
+
+abbrev pub Fields : Type 0
+Fields = TreeFields (Unit {0})
 
 abbrev mutual
   -- 1 for itself, the bytes of a text and of keys, and the weights of its parts
@@ -39,11 +45,11 @@ abbrev mutual
   weight_of (list a ps) = 1 + parts_weight ps
   weight_of (dict a ms) = 1 + members_weight ms
 
-  pub parts_weight : {A : Type 0} → Parts A → ℕ
+  pub parts_weight : {A : Type 0} → TreeItems A → ℕ
   parts_weight no_parts = 0
   parts_weight (part v ps) = weight_of v + parts_weight ps
 
-  pub members_weight : {A : Type 0} → Members A → ℕ
+  pub members_weight : {A : Type 0} → TreeFields A → ℕ
   members_weight no_members = 0
   members_weight (member k v ms) = length k + weight_of v + members_weight ms
 
@@ -57,11 +63,11 @@ abbrev mutual
   depth_of (list a ps) = 1 + parts_depth ps
   depth_of (dict a ms) = 1 + members_depth ms
 
-  pub parts_depth : {A : Type 0} → Parts A → ℕ
+  pub parts_depth : {A : Type 0} → TreeItems A → ℕ
   parts_depth no_parts = 0
   parts_depth (part v ps) = max (depth_of v) (parts_depth ps)
 
-  pub members_depth : {A : Type 0} → Members A → ℕ
+  pub members_depth : {A : Type 0} → TreeFields A → ℕ
   members_depth no_members = 0
   members_depth (member k v ms) = max (depth_of v) (members_depth ms)
 
@@ -80,7 +86,7 @@ AreAscending [] = Unit {0}
 AreAscending (t ∷ ts) = ComesBefore t ts × AreAscending ts
 
 -- the keys of a record's entries
-abbrev pub keys_of : {A : Type 0} → Members A → List (List ℕ)
+abbrev pub keys_of : {A : Type 0} → TreeFields A → List (List ℕ)
 keys_of no_members = []
 keys_of (member k v ms) = k ∷ keys_of ms
 
@@ -94,16 +100,16 @@ abbrev mutual
   IsPlain (list a ps) = ArePlain ps
   IsPlain (dict a ms) = ArePlainMembers ms
 
-  pub ArePlain : {A : Type 0} → Parts A → Type 0
+  pub ArePlain : {A : Type 0} → TreeItems A → Type 0
   ArePlain no_parts = Unit {0}
   ArePlain (part v ps) = IsPlain v × ArePlain ps
 
-  pub ArePlainMembers : {A : Type 0} → Members A → Type 0
+  pub ArePlainMembers : {A : Type 0} → TreeFields A → Type 0
   ArePlainMembers no_members = Unit {0}
   ArePlainMembers (member k v ms) = IsPlain v × ComesBefore k (keys_of ms) × ArePlainMembers ms
 
 -- the keys of one record stand in strictly ascending order, whatever stands under them
-abbrev pub AreKeyed : {A : Type 0} → Members A → Type 0
+abbrev pub AreKeyed : {A : Type 0} → TreeFields A → Type 0
 AreKeyed ms = AreAscending (keys_of ms)
 
 abbrev mutual
@@ -113,15 +119,15 @@ abbrev mutual
   IsOrdered (dict a ms) = AreOrderedMembers ms
   IsOrdered _ = Unit {0}
 
-  pub AreOrdered : {A : Type 0} → Parts A → Type 0
+  pub AreOrdered : {A : Type 0} → TreeItems A → Type 0
   AreOrdered no_parts = Unit {0}
   AreOrdered (part v ps) = IsOrdered v × AreOrdered ps
 
-  pub AreOrderedMembers : {A : Type 0} → Members A → Type 0
+  pub AreOrderedMembers : {A : Type 0} → TreeFields A → Type 0
   AreOrderedMembers no_members = Unit {0}
   AreOrderedMembers (member k v ms) = IsOrdered v × ComesBefore k (keys_of ms) × AreOrderedMembers ms
 
 -- the value of the record's first entry under a key
-abbrev pub value_at : {A : Type 0} → List ℕ → Members A → Option (Tree A)
+abbrev pub value_at : {A : Type 0} → List ℕ → TreeFields A → Option (Tree A)
 value_at key no_members = None
 value_at key (member k v ms) = if bytes_eq key k then Some v else value_at key ms

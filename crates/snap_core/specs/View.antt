@@ -1,16 +1,16 @@
 -- The value that a `Snap` stands for.
 use Rattle.std.specs.Prelude.{ℕ, List, [], ◌∷◌, map}
-use Rattle.snap_core.specs.Value.{Value, null, boolean, integer, text, list, dict, Parts, no_parts, part, Members, no_members, member}
+use Rattle.snap_core.specs.Value.{Value, null, boolean, integer, text, list, dict, no_parts, part, no_members, member, Items, Fields}
 use Rattle.snap_core.specs.declared.snap.Snap.{Snap, fold-Snap}
 use Rattle.snap_core.specs.declared.snap.Snap.TheFolds.{fold-Field}
 use Rattle.snap_core.specs.declared.snap.Snap.TheOpen.{Snap-F, Field-F}
 use Rattle.snap_core.specs.declared.snap.Field.{Field}
 
-abbrev pub parts_of : List Value → Parts (Unit {0})
+abbrev pub parts_of : List Value → Items
 parts_of [] = no_parts
 parts_of (v ∷ vs) = part v (parts_of vs)
 
-abbrev pub members_of : List (List ℕ × Value) → Members (Unit {0})
+abbrev pub members_of : List (List ℕ × Value) → Fields
 members_of [] = no_members
 members_of (m ∷ ms) = member m.0 m.1 (members_of ms)
 
@@ -33,8 +33,8 @@ view = fold-Snap Value (List ℕ × Value) view_step entry_step
 abbrev pub entry : Field → List ℕ × Value
 entry = fold-Field Value (List ℕ × Value) view_step entry_step
 
-abbrev pub items_view : List Snap → Parts (Unit {0})
+abbrev pub items_view : List Snap → Items
 items_view vs = parts_of (map view vs)
 
-abbrev pub fields_view : List Field → Members (Unit {0})
+abbrev pub fields_view : List Field → Fields
 fields_view fs = members_of (map entry fs)

@@ -10,7 +10,7 @@ use Rattle.serde_json.specs.Find.{as_integer, of_integer, is_float}
 use Rattle.serde_json.specs.View.{items_of as array_of}
 use Rattle.serde_json.specs.Written.{has_float, items_have_float, members_have_float}
 use Rattle.snap_core.specs.declared.snap.Snap.{Snap}
-use Rattle.snap_core.specs.Value.{Value, null, boolean, integer, text, list, dict, Parts, no_parts, part, Members, no_members, member, IsPlain, ArePlain, ArePlainMembers, depth_of, parts_depth, members_depth as record_depth}
+use Rattle.snap_core.specs.Value.{Value, null, boolean, integer, text, list, dict, no_parts, part, no_members, member, IsPlain, ArePlain, ArePlainMembers, depth_of, parts_depth, members_depth as record_depth, Items as PlainItems, Fields}
 use Rattle.snap_core.specs.View.{view, items_view}
 use Rattle.snap_json.specs.Printing.{data_of, items_data, members_data, built_of, items_built, members_built}
 use Rattle.snap_json.specs.Reading.{under, mapped, joined, value_of, items_of, members_of}
@@ -39,7 +39,7 @@ abbrev AllBelow : json.Members → List ℕ → Type 0
 AllBelow json.no_members k = ⊤
 AllBelow (json.member l d ms) k = ComesFirst l k × AllBelow ms k
 
-abbrev EndsBefore : json.Members → Members (Unit {0}) → Type 0
+abbrev EndsBefore : json.Members → Fields → Type 0
 EndsBefore done no_members = ⊤
 EndsBefore done (member k v ms) = AllBelow done k
 
@@ -53,7 +53,7 @@ AllBelow-last : (done : json.Members) (k m : List ℕ) (d : Data) → AllBelow d
 AllBelow-last json.no_members k m d below first = (first, tt)
 AllBelow-last (json.member l e ms) k m d below first = (nat_list_cmp_total.trans l k m below.0 first, AllBelow-last ms k m d below.1 first)
 
-EndsBefore-last : (done : json.Members) (k : List ℕ) (d : Data) (ms : Members (Unit {0})) (v : Value) → AllBelow done k → ArePlainMembers (member k v ms) → EndsBefore (followed_by done (json.member k d json.no_members)) ms
+EndsBefore-last : (done : json.Members) (k : List ℕ) (d : Data) (ms : Fields) (v : Value) → AllBelow done k → ArePlainMembers (member k v ms) → EndsBefore (followed_by done (json.member k d json.no_members)) ms
 EndsBefore-last done k d no_members v below plain = tt
 EndsBefore-last done k d (member m w ms) v below plain = AllBelow-last done k m d below plain.1
 
@@ -66,18 +66,18 @@ mutual
   built_of-plain (list a ps) plain = ap json.array (items_built-plain ps plain)
   built_of-plain (dict a ms) plain = ap json.object (members_built-plain ms plain json.no_members (nothing_before ms))
 
-  items_built-plain : (ps : Parts (Unit {0})) → ArePlain ps → items_built ps ≡ items_data ps
+  items_built-plain : (ps : PlainItems) → ArePlain ps → items_built ps ≡ items_data ps
   items_built-plain no_parts plain = refl
   items_built-plain (part v ps) plain = ap₂ json.item (built_of-plain v plain.0) (items_built-plain ps plain.1)
 
-  members_built-plain : (ms : Members (Unit {0})) → ArePlainMembers ms → (done : json.Members) → EndsBefore done ms → members_built ms done ≡ followed_by done (members_data ms)
+  members_built-plain : (ms : Fields) → ArePlainMembers ms → (done : json.Members) → EndsBefore done ms → members_built ms done ≡ followed_by done (members_data ms)
   members_built-plain no_members plain done before = followed_by-none done
   members_built-plain (member k v ms) plain done before =
       ap (λ d. members_built ms (put k d done)) (built_of-plain v plain.0) ∙ ap (members_built ms) (put-last k (data_of v) done before)
       ∙ members_built-plain ms plain.2 (followed_by done (json.member k (data_of v) json.no_members)) (EndsBefore-last done k (data_of v) ms v before plain)
       ∙ followed_by-assoc done (json.member k (data_of v) json.no_members) (members_data ms)
 
-  nothing_before : (ms : Members (Unit {0})) → EndsBefore json.no_members ms
+  nothing_before : (ms : Fields) → EndsBefore json.no_members ms
   nothing_before no_members = tt
   nothing_before (member k v ms) = tt
 
@@ -96,11 +96,11 @@ mutual
   has_float-data_of (list a ps) = items_have_float-items_data ps
   has_float-data_of (dict a ms) = members_have_float-members_data ms
 
-  items_have_float-items_data : (ps : Parts (Unit {0})) → items_have_float (items_data ps) ≡ false
+  items_have_float-items_data : (ps : PlainItems) → items_have_float (items_data ps) ≡ false
   items_have_float-items_data no_parts = refl
   items_have_float-items_data (part v ps) = rw (has_float-data_of v) (items_have_float-items_data ps)
 
-  members_have_float-members_data : (ms : Members (Unit {0})) → members_have_float (members_data ms) ≡ false
+  members_have_float-members_data : (ms : Fields) → members_have_float (members_data ms) ≡ false
   members_have_float-members_data no_members = refl
   members_have_float-members_data (member k v ms) = rw (has_float-data_of v) (members_have_float-members_data ms)
 
@@ -113,11 +113,11 @@ mutual
   depth-data_of (list a ps) = omega (arith, depth-items_data ps)
   depth-data_of (dict a ms) = omega (arith, depth-members_data ms)
 
-  depth-items_data : (ps : Parts (Unit {0})) → items_depth (items_data ps) ≤ parts_depth ps
+  depth-items_data : (ps : PlainItems) → items_depth (items_data ps) ≤ parts_depth ps
   depth-items_data no_parts = omega arith
   depth-items_data (part v ps) = omega (arith, depth-data_of v, depth-items_data ps)
 
-  depth-members_data : (ms : Members (Unit {0})) → members_depth (members_data ms) ≤ record_depth ms
+  depth-members_data : (ms : Fields) → members_depth (members_data ms) ≤ record_depth ms
   depth-members_data no_members = omega arith
   depth-members_data (member k v ms) = omega (arith, depth-data_of v, depth-members_data ms)
 
@@ -136,10 +136,10 @@ mutual
   value_of-data_of (list a ps) plain = ap (mapped (list a)) (items_of-items_data 0 ps plain)
   value_of-data_of (dict a ms) plain = ap (mapped (dict a)) (members_of-members_data ms plain)
 
-  items_of-items_data : (i : ℕ) (ps : Parts (Unit {0})) → ArePlain ps → items_of i (items_data ps) ≡ Ok ps
+  items_of-items_data : (i : ℕ) (ps : PlainItems) → ArePlain ps → items_of i (items_data ps) ≡ Ok ps
   items_of-items_data i no_parts plain = refl
   items_of-items_data i (part v ps) plain = ap₂ (λ r s. joined part (under (decimal i) r) s) (value_of-data_of v plain.0) (items_of-items_data (i + 1) ps plain.1)
 
-  members_of-members_data : (ms : Members (Unit {0})) → ArePlainMembers ms → members_of (members_data ms) ≡ Ok ms
+  members_of-members_data : (ms : Fields) → ArePlainMembers ms → members_of (members_data ms) ≡ Ok ms
   members_of-members_data no_members plain = refl
   members_of-members_data (member k v ms) plain = ap₂ (λ r s. joined (member k) (under k r) s) (value_of-data_of v plain.0) (members_of-members_data ms plain.2)

@@ -7,7 +7,7 @@ use Rattle.std.proofs.lemmas.Str.{IsUtf8-from_is_utf8, is_utf8-from_IsUtf8}
 use Rattle.serde_json.specs.Data as json
 use Rattle.serde_json.specs.Data.{Num, Data, Items, depth, items_depth, members_depth}
 use Rattle.serde_json.specs.Read.{read}
-use Rattle.snap_core.specs.Value.{Value, integer, list, dict, Parts, part, Members, member, IsPlain, ArePlain, ArePlainMembers, ComesBefore, keys_of, is_whole, depth_of, parts_depth, members_depth as record_depth}
+use Rattle.snap_core.specs.Value.{Value, integer, list, dict, part, member, IsPlain, ArePlain, ArePlainMembers, ComesBefore, keys_of, is_whole, depth_of, parts_depth, members_depth as record_depth, Items as PlainItems, Fields}
 use Rattle.pointer_core.specs.Path.{Path}
 use Rattle.snap_json.specs.declared.read.ReadError.{ReadError}
 use Rattle.snap_json.specs.declared.read.ReadError.TheVariants.{Memory, Syntax, Whole}
@@ -37,7 +37,7 @@ plain_number (json.negative z) = plain_number_at z _ refl
 plain_number (json.float x) = tt
 
 -- ascending, and after each key that all the members come after
-abbrev FollowsMembers : json.Members → Members (Unit {0}) → Type 0
+abbrev FollowsMembers : json.Members → Fields → Type 0
 FollowsMembers ms found = ArePlainMembers found × ((k : List ℕ) → AllAbove k ms → ComesBefore k (keys_of found))
 
 mutual
@@ -61,10 +61,10 @@ mutual
 abbrev IsWithin : ℕ → Value → Type 0
 IsWithin n v = depth_of v ≤ n + 1
 
-abbrev AreWithin : ℕ → Parts (Unit {0}) → Type 0
+abbrev AreWithin : ℕ → PlainItems → Type 0
 AreWithin n ps = parts_depth ps ≤ n + 1
 
-abbrev RecordIsWithin : ℕ → Members (Unit {0}) → Type 0
+abbrev RecordIsWithin : ℕ → Fields → Type 0
 RecordIsWithin n ms = record_depth ms ≤ n + 1
 
 mutual

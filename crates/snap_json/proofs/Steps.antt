@@ -1,6 +1,6 @@
 -- What was read so far, before what is left.
 use Rattle.std.proofs.Common.{◌≡◌, ℕ, ◌+◌, List, [], ◌∷◌, ◌++◌, Result, Ok, Err, map, decimal, refl, sym, ap, ◌∙◌}
-use Rattle.snap_core.specs.Value.{Value, Parts, no_parts, part, Members, no_members, member}
+use Rattle.snap_core.specs.Value.{Value, no_parts, part, no_members, member, Items as PlainItems, Fields}
 use Rattle.std.proofs.lemmas.List.{map-append}
 use Rattle.serde_json.specs.Data as json
 use Rattle.serde_json.specs.Data.{Data, Items}
@@ -15,11 +15,11 @@ use Rattle.snap_json.specs.Fault.{IsFaultOf}
 use Rattle.snap_json.specs.Reading.{value_of, items_of, members_of, mapped, joined, under}
 
 -- these values, and then the items
-abbrev pub items_before : List Value → Parts (Unit {0}) → Parts (Unit {0})
+abbrev pub items_before : List Value → PlainItems → PlainItems
 items_before [] ps = ps
 items_before (v ∷ vs) ps = part v (items_before vs ps)
 
-abbrev pub members_before : List (List ℕ × Value) → Members (Unit {0}) → Members (Unit {0})
+abbrev pub members_before : List (List ℕ × Value) → Fields → Fields
 members_before [] ms = ms
 members_before (e ∷ es) ms = member e.0 e.1 (members_before es ms)
 
@@ -31,11 +31,11 @@ pub members_before-none : (es : List (List ℕ × Value)) → members_before es 
 members_before-none [] = refl
 members_before-none (e ∷ es) = ap (member e.0 e.1) (members_before-none es)
 
-pub items_before-part : (vs : List Value) (v : Value) (ps : Parts (Unit {0})) → items_before vs (part v ps) ≡ items_before (vs ++ v ∷ []) ps
+pub items_before-part : (vs : List Value) (v : Value) (ps : PlainItems) → items_before vs (part v ps) ≡ items_before (vs ++ v ∷ []) ps
 items_before-part [] v ps = refl
 items_before-part (w ∷ vs) v ps = ap (part w) (items_before-part vs v ps)
 
-pub members_before-member : (es : List (List ℕ × Value)) (e : List ℕ × Value) (ms : Members (Unit {0})) → members_before es (member e.0 e.1 ms) ≡ members_before (es ++ e ∷ []) ms
+pub members_before-member : (es : List (List ℕ × Value)) (e : List ℕ × Value) (ms : Fields) → members_before es (member e.0 e.1 ms) ≡ members_before (es ++ e ∷ []) ms
 members_before-member [] e ms = refl
 members_before-member (d ∷ es) e ms = ap (member d.0 d.1) (members_before-member es e ms)
 
@@ -44,11 +44,11 @@ pub mapped-nothing : {A : Type 0} (r : Result A Path) → r ≡ mapped (λ x. x)
 mapped-nothing (Ok x) = refl
 mapped-nothing (Err path) = refl
 
-item_joins : (vs : List Value) (v : Value) (rest : Result (Parts (Unit {0})) Path) → mapped (items_before vs) (joined part (Ok v) rest) ≡ mapped (items_before (vs ++ v ∷ [])) rest
+item_joins : (vs : List Value) (v : Value) (rest : Result PlainItems Path) → mapped (items_before vs) (joined part (Ok v) rest) ≡ mapped (items_before (vs ++ v ∷ [])) rest
 item_joins vs v (Ok ps) = ap Ok (items_before-part vs v ps)
 item_joins vs v (Err path) = refl
 
-member_joins : (es : List (List ℕ × Value)) (e : List ℕ × Value) (rest : Result (Members (Unit {0})) Path) → mapped (members_before es) (joined (member e.0) (Ok e.1) rest) ≡ mapped (members_before (es ++ e ∷ [])) rest
+member_joins : (es : List (List ℕ × Value)) (e : List ℕ × Value) (rest : Result Fields Path) → mapped (members_before es) (joined (member e.0) (Ok e.1) rest) ≡ mapped (members_before (es ++ e ∷ [])) rest
 member_joins es e (Ok ms) = ap Ok (members_before-member es e ms)
 member_joins es e (Err path) = refl
 

@@ -4,7 +4,7 @@ use Rattle.std.specs.Str.{is_utf8}
 use Rattle.serde_json.specs.Data as json
 use Rattle.serde_json.specs.Data.{Num, Data, Items}
 use Rattle.serde_json.specs.Read.{read}
-use Rattle.snap_core.specs.Value.{Value, null, boolean, integer, text, list, dict, Parts, no_parts, part, Members, no_members, member}
+use Rattle.snap_core.specs.Value.{Value, null, boolean, integer, text, list, dict, no_parts, part, no_members, member, Items as PlainItems, Fields}
 use Rattle.snap_json.specs.Reading.{whole_of}
 
 -- the integer that a number is, or the first one past those that a value holds
@@ -22,11 +22,11 @@ abbrev mutual
   loose_value (json.array ds) = list tt (loose_items ds)
   loose_value (json.object ms) = dict tt (loose_members ms)
 
-  pub loose_items : Items → Parts (Unit {0})
+  pub loose_items : Items → PlainItems
   loose_items json.no_items = no_parts
   loose_items (json.item d ds) = part (loose_value d) (loose_items ds)
 
-  pub loose_members : json.Members → Members (Unit {0})
+  pub loose_members : json.Members → Fields
   loose_members json.no_members = no_members
   loose_members (json.member k d ms) = member k (loose_value d) (loose_members ms)
 

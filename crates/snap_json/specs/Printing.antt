@@ -4,7 +4,7 @@ use Rattle.serde_json.specs.Data as json
 use Rattle.serde_json.specs.Data.{Data, Items, put}
 use Rattle.serde_json.specs.Find.{of_integer}
 use Rattle.serde_json.specs.Written.{compact_text}
-use Rattle.snap_core.specs.Value.{Value, null, boolean, integer, text, list, dict, Parts, no_parts, part, Members, no_members, member}
+use Rattle.snap_core.specs.Value.{Value, null, boolean, integer, text, list, dict, no_parts, part, no_members, member, Items as PlainItems, Fields}
 
 -- a value as JSON data
 abbrev mutual
@@ -16,11 +16,11 @@ abbrev mutual
   data_of (list a ps) = json.array (items_data ps)
   data_of (dict a ms) = json.object (members_data ms)
 
-  pub items_data : Parts (Unit {0}) → Items
+  pub items_data : PlainItems → Items
   items_data no_parts = json.no_items
   items_data (part v ps) = json.item (data_of v) (items_data ps)
 
-  pub members_data : Members (Unit {0}) → json.Members
+  pub members_data : Fields → json.Members
   members_data no_members = json.no_members
   members_data (member k v ms) = json.member k (data_of v) (members_data ms)
 
@@ -38,10 +38,10 @@ abbrev mutual
   built_of (list a ps) = json.array (items_built ps)
   built_of (dict a ms) = json.object (members_built ms json.no_members)
 
-  pub items_built : Parts (Unit {0}) → Items
+  pub items_built : PlainItems → Items
   items_built no_parts = json.no_items
   items_built (part v ps) = json.item (built_of v) (items_built ps)
 
-  pub members_built : Members (Unit {0}) → json.Members → json.Members
+  pub members_built : Fields → json.Members → json.Members
   members_built no_members done = done
   members_built (member k v ms) done = members_built ms (put k (built_of v) done)

@@ -6,7 +6,7 @@ use Rattle.serde_json.specs.Data as json
 use Rattle.serde_json.specs.Data.{Num, Data, Items}
 use Rattle.serde_json.specs.Find.{as_integer}
 use Rattle.serde_json.specs.Read.{read}
-use Rattle.snap_core.specs.Value.{Value, null, boolean, integer, text, list, dict, Parts, no_parts, part, Members, no_members, member, is_whole}
+use Rattle.snap_core.specs.Value.{Value, null, boolean, integer, text, list, dict, no_parts, part, no_members, member, is_whole, Items as PlainItems, Fields}
 use Rattle.pointer_core.specs.Path.{Path}
 
 -- what reading bytes comes to: the value that they spell, the place of the first number in them that
@@ -46,11 +46,11 @@ abbrev mutual
   value_of (json.object ms) = mapped (dict tt) (members_of ms)
 
   -- the items from this index on
-  pub items_of : ℕ → Items → Result (Parts (Unit {0})) Path
+  pub items_of : ℕ → Items → Result PlainItems Path
   items_of i json.no_items = Ok no_parts
   items_of i (json.item d ds) = joined part (under (decimal i) (value_of d)) (items_of (i + 1) ds)
 
-  pub members_of : json.Members → Result (Members (Unit {0})) Path
+  pub members_of : json.Members → Result Fields Path
   members_of json.no_members = Ok no_members
   members_of (json.member k d ms) = joined (member k) (under k (value_of d)) (members_of ms)
 

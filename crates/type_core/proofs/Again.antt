@@ -9,7 +9,7 @@ use Rattle.std.proofs.lemmas.Option.{slice_get_within, get_or_from_slice_get}
 use Rattle.pointer_core.specs.declared.refusal.Rule.TheVariants.{Large}
 use Rattle.snap_core.specs.declared.snap.Snap.{Snap}
 use Rattle.snap_core.specs.declared.number.TypeNo.{TypeNo}
-use Rattle.snap_core.specs.Value.{Value, null, Parts, no_parts, Members, no_members, member, ComesBefore, keys_of, value_at, IsPlain, ArePlain, ArePlainMembers}
+use Rattle.snap_core.specs.Value.{Value, null, no_parts, no_members, member, ComesBefore, keys_of, value_at, IsPlain, ArePlain, ArePlainMembers, Items, Fields}
 use Rattle.snap_core.specs.View.{view}
 use Rattle.type_core.specs.declared.making.MakeError.{MakeError}
 use Rattle.type_core.specs.declared.making.MakeError.TheVariants.{Memory, Refused}
@@ -29,7 +29,7 @@ use Rattle.type_core.proofs.Choosing.{chosen-again}
 use Rattle.type_core.proofs.Laws.{is_null-null, other-is_null, made_by-sound, made_by-complete}
 
 -- each value of a plain record is plain, if there is one
-pub IfSome-value_at : (key : List ℕ) (ms : Members (Unit {0})) → ArePlainMembers ms → IfSome (value_at key ms) IsPlain
+pub IfSome-value_at : (key : List ℕ) (ms : Fields) → ArePlainMembers ms → IfSome (value_at key ms) IsPlain
 IfSome-value_at key ms plain = by_value (value_at key ms) refl
   where
     by_value : (x : Option Value) → value_at key ms ≡ x → IfSome x IsPlain
@@ -37,13 +37,13 @@ IfSome-value_at key ms plain = by_value (value_at key ms) refl
     by_value (Some v) e = IsPlain-value_at key ms v plain e
 
 -- the keys of what a model makes are its properties' names
-pub keys-made : (table : Table) (given : Members (Unit {0})) (ps : List Property) (made : Members (Unit {0}))
+pub keys-made : (table : Table) (given : Fields) (ps : List Property) (made : Fields)
     → MakesEach table given ps made → keys_of made ≡ names_of ps
 keys-made table _ _ _ (no_more given) = refl
 keys-made table _ _ _ (one_more given p ps v made one rest) = ap (λ ks. p.name ∷ ks) (keys-made table given ps made rest)
 
 -- the keys of what a map makes are those of the record
-pub keys-values : (table : Table) (t : ℕ) (given made : Members (Unit {0})) → MakesValues table t given made → keys_of made ≡ keys_of given
+pub keys-values : (table : Table) (t : ℕ) (given made : Fields) → MakesValues table t given made → keys_of made ≡ keys_of given
 keys-values table _ _ _ (no_values t) = refl
 keys-values table _ _ _ (one_value t k v s given made one rest) = ap (λ ks. k ∷ ks) (keys-values table t given made rest)
 
@@ -57,7 +57,7 @@ IsPlain-default types sound t u d e =
     of.plain
 
 -- a key that is made comes after a name before the properties'
-pub key-after : (table : Table) (first : List ℕ) (given : Members (Unit {0})) (ps : List Property) (made : Members (Unit {0}))
+pub key-after : (table : Table) (first : List ℕ) (given : Fields) (ps : List Property) (made : Fields)
     → MakesEach table given ps made → ComesBefore first (names_of ps) → AreNamed ps
     → (key : List ℕ) (w : Value) → value_at key made ≡ Some w → key_cmp first key ≡ Less
 key-after table first _ _ _ (no_more given) before named = λ key w h. cc
@@ -105,11 +105,11 @@ module _ (types : Catalog) (sound : IsSound types) where
         MakesEach-plain given (properties_of types.table m.0) made each (AreNamed-properties_of types m.0 sound) plain
     Makes-plain _ _ _ (name t u x s e made) plain = Makes-plain u.0 x s made plain
 
-    pub MakesItems-plain : (t : ℕ) (given made : Parts (Unit {0})) → MakesItems types.table t given made → ArePlain given → ArePlain made
+    pub MakesItems-plain : (t : ℕ) (given made : Items) → MakesItems types.table t given made → ArePlain given → ArePlain made
     MakesItems-plain _ _ _ (no_items t) plain = tt
     MakesItems-plain _ _ _ (one_item t v s given made one rest) plain = (Makes-plain t (Some v) s one plain.0, MakesItems-plain t given made rest plain.1)
 
-    pub MakesValues-plain : (t : ℕ) (given made : Members (Unit {0})) → MakesValues types.table t given made → ArePlainMembers given → ArePlainMembers made
+    pub MakesValues-plain : (t : ℕ) (given made : Fields) → MakesValues types.table t given made → ArePlainMembers given → ArePlainMembers made
     MakesValues-plain _ _ _ (no_values t) plain = tt
     MakesValues-plain _ _ _ (one_value t k v s given made one rest) plain = (
       Makes-plain t (Some v) s one plain.0,
@@ -117,7 +117,7 @@ module _ (types : Catalog) (sound : IsSound types) where
       MakesValues-plain t given made rest plain.2,
     )
 
-    pub MakesEach-plain : (given : Members (Unit {0})) (ps : List Property) (made : Members (Unit {0}))
+    pub MakesEach-plain : (given : Fields) (ps : List Property) (made : Fields)
         → MakesEach types.table given ps made → AreNamed ps → ArePlainMembers given → ArePlainMembers made
     MakesEach-plain _ _ _ (no_more given) named plain = tt
     MakesEach-plain _ _ _ (one_more given p ps v made one rest) named plain = (
@@ -152,17 +152,17 @@ module _ (types : Catalog) (sound : IsSound types) where
         model t m made made e (MakesEach-again given (properties_of types.table m.0) made each (AreNamed-properties_of types m.0 sound) made (λ key v h. h))
     Makes-again _ _ _ (name t u x s e made) = name t u (Some s) s e (Makes-again u.0 x s made)
 
-    pub MakesItems-again : (t : ℕ) (given made : Parts (Unit {0})) → MakesItems types.table t given made → MakesItems types.table t made made
+    pub MakesItems-again : (t : ℕ) (given made : Items) → MakesItems types.table t given made → MakesItems types.table t made made
     MakesItems-again _ _ _ (no_items t) = no_items t
     MakesItems-again _ _ _ (one_item t v s given made one rest) = one_item t s s made made (Makes-again t (Some v) s one) (MakesItems-again t given made rest)
 
-    pub MakesValues-again : (t : ℕ) (given made : Members (Unit {0})) → MakesValues types.table t given made → MakesValues types.table t made made
+    pub MakesValues-again : (t : ℕ) (given made : Fields) → MakesValues types.table t given made → MakesValues types.table t made made
     MakesValues-again _ _ _ (no_values t) = no_values t
     MakesValues-again _ _ _ (one_value t k v s given made one rest) =
         one_value t k s s made made (Makes-again t (Some v) s one) (MakesValues-again t given made rest)
 
-    pub MakesEach-again : (given : Members (Unit {0})) (ps : List Property) (made : Members (Unit {0}))
-        → MakesEach types.table given ps made → AreNamed ps → (all : Members (Unit {0}))
+    pub MakesEach-again : (given : Fields) (ps : List Property) (made : Fields)
+        → MakesEach types.table given ps made → AreNamed ps → (all : Fields)
         → ((key : List ℕ) (v : Value) → value_at key made ≡ Some v → value_at key all ≡ Some v) → MakesEach types.table all ps made
     MakesEach-again _ _ _ (no_more given) named all among = no_more all
     MakesEach-again _ _ _ (one_more given p ps v made one rest) named all among =

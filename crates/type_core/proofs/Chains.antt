@@ -3,7 +3,7 @@ use Rattle.std.proofs.Common.{◌≡◌, ℕ, zero, suc, ◌+◌, ◌<◌, ◌�
 use Rattle.std.specs.List.{list_any, AllByRecursion, IsDistinct}
 use Rattle.std.proofs.lemmas.Option.{slice_get_within}
 use Rattle.std.proofs.lemmas.Map.Steps.{length-le_from_distinct_below}
-use Rattle.snap_core.specs.Value.{Value, null, boolean, integer, text, list, dict, Members}
+use Rattle.snap_core.specs.Value.{Value, null, boolean, integer, text, list, dict, Fields}
 use Rattle.snap_core.specs.declared.number.TypeNo.{TypeNo}
 use Rattle.snap_core.specs.declared.number.ModelNo.{ModelNo}
 use Rattle.type_core.specs.declared.shape.Shape.{Shape}
@@ -58,7 +58,7 @@ Each-only_model P [] t each h = cc
 Each-only_model P (m ∷ []) t each h = let same : m.0 ≡ t = cc in subst P same each.0
 Each-only_model P (m ∷ n ∷ ms) t each h = cc
 
-pub Each-chosen_by_tag : (table : Table) (P : TypeNo → Type 0) (ms : List (TypeNo × ModelNo)) (tag : Option (List ℕ)) (given : Members (Unit {0})) (t : TypeNo)
+pub Each-chosen_by_tag : (table : Table) (P : TypeNo → Type 0) (ms : List (TypeNo × ModelNo)) (tag : Option (List ℕ)) (given : Fields) (t : TypeNo)
     → Each P ms → chosen_by_tag table ms tag given ≡ Some t → P t
 Each-chosen_by_tag table P ms None given t each h = Each-only_model P ms t each h
 Each-chosen_by_tag table P ms (Some tag) given t each h = by_value (value_at tag given) h

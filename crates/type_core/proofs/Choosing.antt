@@ -3,7 +3,7 @@ use Rattle.std.proofs.Common.{◌≡◌, ℕ, zero, suc, length, List, [], ◌�
 use Rattle.std.specs.List.{find}
 use Rattle.std.specs.Str.{bytes_eq}
 use Rattle.std.proofs.lemmas.Slice.Eq.{bytes_eq-Decides}
-use Rattle.snap_core.specs.Value.{Value, null, boolean, integer, text, list, dict, Parts, Members, member}
+use Rattle.snap_core.specs.Value.{Value, null, boolean, integer, text, list, dict, member, Items, Fields}
 use Rattle.snap_core.specs.declared.number.TypeNo.{TypeNo}
 use Rattle.snap_core.specs.declared.number.ModelNo.{ModelNo}
 use Rattle.type_core.specs.declared.shape.Shape.{Shape}
@@ -17,8 +17,8 @@ use Rattle.type_core.specs.Makes.{Makes, IsMaybe, maybe, maybe_null, string, who
 
 -- what is made of a scalar is that scalar, what is made of a list is a list, and of a record a record
 abbrev pub IsLike : Value → Value → Type 0
-IsLike (list a ps) s = (qs : Parts (Unit {0})) × (s ≡ list tt qs)
-IsLike (dict a ms) s = (ns : Members (Unit {0})) × (s ≡ dict tt ns)
+IsLike (list a ps) s = (qs : Items) × (s ≡ list tt qs)
+IsLike (dict a ms) s = (ns : Fields) × (s ≡ dict tt ns)
 IsLike v s = s ≡ v
 
 like-itself : (v : Value) → IsLike v v
@@ -102,7 +102,7 @@ named_within-made table (suc n) t x s made =
 
 -- what a model makes of a record
 abbrev IsOf : Table → ModelNo → Value → Value → Type 0
-IsOf table m (dict a given) s = (made : Members (Unit {0})) × (s ≡ dict tt made) × MakesEach table given (properties_of table m.0) made
+IsOf table m (dict a given) s = (made : Fields) × (s ≡ dict tt made) × MakesEach table given (properties_of table m.0) made
 IsOf table m _ s = Unit {0}
 
 model-made : (table : Table) (k : ModelNo) (t : ℕ) (x : Option Value) (s : Value) → Makes table t x s → shape_at table t ≡ Some (Model k) → IfSome x (λ v. IsOf table k v s)
@@ -132,10 +132,10 @@ model-made table k _ _ _ (model t m given made e each) h =
 model-made table k _ _ _ (name t u x s e made) h = cc
 
 -- what a property is made of stands under its name
-abbrev IsUnder : Table → List ℕ → Members (Unit {0}) → Members (Unit {0}) → Property → Type 0
+abbrev IsUnder : Table → List ℕ → Fields → Fields → Property → Type 0
 IsUnder table tag given made p = (v : Value) × (value_at tag made ≡ Some v) × Makes table p.of.0 (value_at tag given) v
 
-each-next : (table : Table) (tag : List ℕ) (given : Members (Unit {0})) (p : Property) (ps : List Property) (v : Value) (made : Members (Unit {0}))
+each-next : (table : Table) (tag : List ℕ) (given : Fields) (p : Property) (ps : List Property) (v : Value) (made : Fields)
     → Makes table p.of.0 (value_at p.name given) v → (q : Property) → (property_at tag ps ≡ Some q → IsUnder table tag given made q)
     → (b : Bool) → bytes_eq tag p.name ≡ b → (if b then Some p else property_at tag ps) ≡ Some q → IsUnder table tag given (member p.name v made) q
 each-next table tag given p ps v made one q later true e h =
@@ -145,7 +145,7 @@ each-next table tag given p ps v made one q later true e h =
     (v, rw e, subst Q same (subst P (sym ((bytes_eq-Decides tag p.name).0 e)) one))
 each-next table tag given p ps v made one q later false e h = let under = later h in (under.0, rw e under.1, under.2)
 
-each-made : (table : Table) (tag : List ℕ) (given : Members (Unit {0})) (ps : List Property) (made : Members (Unit {0}))
+each-made : (table : Table) (tag : List ℕ) (given : Fields) (ps : List Property) (made : Fields)
     → MakesEach table given ps made → (q : Property) → property_at tag ps ≡ Some q → IsUnder table tag given made q
 each-made table tag _ _ _ (no_more given) q found = cc
 each-made table tag _ _ _ (one_more given p ps v made one rest) q found =
@@ -194,9 +194,9 @@ tagged-found table [] tag w m h = cc
 tagged-found table (t ∷ ts) tag w m h = tagged-next table t ts tag w m (tagged-found table ts tag w m) (model_in (shape_by table t.0)) refl h
 
 -- what the model makes that a tag tells has the same value under the tag
-kept-under : (table : Table) (ts : List TypeNo) (tag : List ℕ) (given : Members (Unit {0})) (w : Value) (m : TypeNo) (s : Value)
+kept-under : (table : Table) (ts : List TypeNo) (tag : List ℕ) (given : Fields) (w : Value) (m : TypeNo) (s : Value)
     → value_at tag given ≡ Some w → tagged table (models_of table ts) tag w ≡ Some m → Makes table m.0 (Some (dict tt given)) s
-    → (made : Members (Unit {0})) × (s ≡ dict tt made) × (value_at tag made ≡ Some w)
+    → (made : Fields) × (s ≡ dict tt made) × (value_at tag made ≡ Some w)
 kept-under table ts tag given w m s h e made =
     let is = tagged-found table ts tag w m e in
     let k = is.0 in
@@ -208,7 +208,7 @@ kept-under table ts tag given w m s h e made =
     let same : under.0 ≡ w = scalar-same w l.0 under.0 l.2 (like-made table p.0.of.0 (Some w) under.0 (subst P h under.2)) in
     (inside.0, inside.1, under.1 ∙ ap Some same)
 
-module _ (table : Table) (ms : List TypeNo) (m : TypeNo) (given : Members (Unit {0})) (s : Value) (made : Makes table m.0 (Some (dict tt given)) s)
+module _ (table : Table) (ms : List TypeNo) (m : TypeNo) (given : Fields) (s : Value) (made : Makes table m.0 (Some (dict tt given)) s)
     (no_map : find (λ t. is_map (shape_by table t.0)) ms ≡ None) where
   by_field : (tag : List ℕ) → tag_of table (models_of table ms) ≡ Some tag → (x : Option Value) → value_at tag given ≡ x
       → chosen_by_field table (models_of table ms) tag x ≡ Some m → chosen table ms s ≡ Some m
@@ -225,7 +225,7 @@ module _ (table : Table) (ms : List TypeNo) (m : TypeNo) (given : Members (Unit 
       subst P (sym like.1) (rw (no_map, g) e)
   by_tag (Some tag) g e = by_field tag g (value_at tag given) refl e
 
-record-again : (table : Table) (ms : List TypeNo) (m : TypeNo) (given : Members (Unit {0})) (s : Value) → Makes table m.0 (Some (dict tt given)) s
+record-again : (table : Table) (ms : List TypeNo) (m : TypeNo) (given : Fields) (s : Value) → Makes table m.0 (Some (dict tt given)) s
     → (found : Option TypeNo) → find (λ t. is_map (shape_by table t.0)) ms ≡ found → chosen_for_record table ms found given ≡ Some m → chosen table ms s ≡ Some m
 record-again table ms m given s made None f e = by_tag table ms m given s made f (tag_of table (models_of table ms)) refl e
 record-again table ms m given s made (Some t) f e =

@@ -1,7 +1,7 @@
 -- Making the entries of a record one after another: those made so far, in front of what the rest comes to.
 use Rattle.std.proofs.Common.{◌≡◌, ℕ, List, [], ◌∷◌, ◌++◌, Option, Result, Ok, Err, IsErrAnd, sym, ◌∙◌, ap, subst, refl, ◌<◌, ◌≤◌, ◌+◌, length, get_or, drop, drop-cons, add-one}
 use Rattle.std.proofs.lemmas.List.{drop_all}
-use Rattle.snap_core.specs.Value.{Value, Members, no_members}
+use Rattle.snap_core.specs.Value.{Value, no_members, Fields}
 use Rattle.snap_core.specs.declared.snap.Field.{Field}
 use Rattle.snap_core.specs.declared.snap.Snap.{Snap}
 use Rattle.snap_core.specs.View.{view, entry, fields_view}
@@ -11,15 +11,15 @@ use Rattle.type_core.specs.declared.making.MakeError.TheVariants.{Memory, Refuse
 use Rattle.type_core.specs.Table.{Table}
 use Rattle.type_core.specs.Made.{Answers, refused_as}
 use Rattle.type_core.specs.Making as making
-use Rattle.type_core.specs.Making.{Outcome, Maker, Fields, maker_of, fields_of, under, entry_made, entries_made, property_made, properties_made, field_at}
+use Rattle.type_core.specs.Making.{Outcome, Maker, FieldMakers, maker_of, fields_of, under, entry_made, entries_made, property_made, properties_made, field_at}
 use Rattle.snap_core.proofs.Views.{entry-fields}
 
 -- the entries in front of what follows
-abbrev pub entries_before : List Field → Outcome (Members (Unit {0})) → Outcome (Members (Unit {0}))
+abbrev pub entries_before : List Field → Outcome Fields → Outcome Fields
 entries_before [] rest = rest
 entries_before (f ∷ fs) rest = entry_made (entry f).0 (Ok (entry f).1) (entries_before fs rest)
 
-pub entries_before-push : (fs : List Field) (f : Field) (rest : Outcome (Members (Unit {0}))) → entries_before (fs ++ f ∷ []) rest ≡ entries_before fs (entry_made (entry f).0 (Ok (entry f).1) rest)
+pub entries_before-push : (fs : List Field) (f : Field) (rest : Outcome Fields) → entries_before (fs ++ f ∷ []) rest ≡ entries_before fs (entry_made (entry f).0 (Ok (entry f).1) rest)
 entries_before-push [] f rest = refl
 entries_before-push (g ∷ fs) f rest = ap (entry_made (entry g).0 (Ok (entry g).1)) (entries_before-push fs f rest)
 
@@ -32,7 +32,7 @@ entries_before-all [] = refl
 entries_before-all (f ∷ fs) = ap (entry_made (entry f).0 (Ok (entry f).1)) (entries_before-all fs)
 
 -- one entry more, in front of the rest, where all of it comes to the whole
-module _ (made : List Field) (name : List ℕ) (one : Outcome Value) (rest whole : Outcome (Members (Unit {0})))
+module _ (made : List Field) (name : List ℕ) (one : Outcome Value) (rest whole : Outcome Fields)
     (so_far : entries_before made (entry_made name one rest) ≡ whole) where
   -- a refused value refuses the whole
   pub entry-refused : (e : MakeError) → Answers {T = Snap} view (Err e) one → Answers {T = List Field} fields_view (Err e) whole
@@ -55,7 +55,7 @@ module _ (made : List Field) (name : List ℕ) (one : Outcome Value) (rest whole
       let P : Outcome Value → Type 0 = λ o. entries_before made (entry_made name o rest) ≡ whole in
       entries_before-push made _ _ ∙ rw (entry-fields (record { key = key; value = v }), named) (subst P h so_far)
 
-module _ (absent : Maker) (ps : List Property) (fields : Fields) (i : ℕ) (made : List Field)
+module _ (absent : Maker) (ps : List Property) (fields : FieldMakers) (i : ℕ) (made : List Field)
     (so_far : entries_before made (properties_made absent (drop i ps) fields) ≡ properties_made absent ps fields) where
   -- after the last property the entries are all
   pub properties-all : length ps ≤ i → properties_made absent ps fields ≡ Ok (fields_view made)
@@ -67,7 +67,7 @@ module _ (absent : Maker) (ps : List Property) (fields : Fields) (i : ℕ) (made
     abbrev one : Outcome Value
     one = under p.name (property_made absent p (field_at p.name fields))
 
-    abbrev rest : Outcome (Members (Unit {0}))
+    abbrev rest : Outcome Fields
     rest = properties_made absent (drop (i + 1) ps) fields
 
     -- the properties that are left begin with this one
@@ -98,10 +98,10 @@ module _ (table : Table) (defaults : List (Option Snap)) (t : ℕ) (fs : List Fi
     abbrev value : Outcome Value
     value = under f.key (maker_of table defaults (view f.value) t)
 
-    abbrev others : Outcome (Members (Unit {0}))
+    abbrev others : Outcome Fields
     others = entries_made t (fields_of table defaults (fields_view (drop (i + 1) fs)))
 
-    abbrev whole : Outcome (Members (Unit {0}))
+    abbrev whole : Outcome Fields
     whole = entries_made t (fields_of table defaults (fields_view fs))
 
     -- the fields that are left begin with this one

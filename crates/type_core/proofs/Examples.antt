@@ -1,7 +1,7 @@
 -- Making and unions, computed on examples and at their edges.
 use Rattle.std.proofs.Common.{◌≡◌, ℕ, List, [], ◌∷◌, Bool, true, false, Option, Some, None, Ok, Err, map, pos, refl, rules}
 use Rattle.std.specs.Prelude.{codes, decimal}
-use Rattle.snap_core.specs.Value.{Value, null, boolean, integer, text, list, dict, Parts, no_parts, part, Members, no_members, member}
+use Rattle.snap_core.specs.Value.{Value, null, boolean, integer, text, list, dict, no_parts, part, no_members, member}
 use Rattle.snap_core.specs.Unview.{snap_of}
 use Rattle.snap_core.specs.declared.snap.Snap.{Snap}
 use Rattle.snap_core.specs.declared.number.TypeNo.{TypeNo}

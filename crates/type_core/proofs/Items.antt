@@ -1,7 +1,7 @@
 -- Making the items of a list one after another: those made so far, in front of what the rest comes to.
 use Rattle.std.proofs.Common.{◌≡◌, ℕ, List, [], ◌∷◌, ◌++◌, Option, Result, Ok, Err, IsErrAnd, decimal, sym, ◌∙◌, ap, subst, refl, ◌<◌, ◌≤◌, ◌+◌, length, get_or, drop, drop-cons, add-one}
 use Rattle.std.proofs.lemmas.List.{drop_all}
-use Rattle.snap_core.specs.Value.{Value, Parts, no_parts}
+use Rattle.snap_core.specs.Value.{Value, no_parts, Items}
 use Rattle.snap_core.specs.declared.snap.Snap.{Snap}
 use Rattle.snap_core.specs.View.{view, items_view}
 use Rattle.type_core.specs.declared.making.MakeError.{MakeError}
@@ -12,11 +12,11 @@ use Rattle.type_core.specs.Making as making
 use Rattle.type_core.specs.Making.{Outcome, maker_of, makers_of, under, part_made, items_made}
 
 -- the items in front of what follows
-abbrev pub items_before : List Snap → Outcome (Parts (Unit {0})) → Outcome (Parts (Unit {0}))
+abbrev pub items_before : List Snap → Outcome Items → Outcome Items
 items_before [] rest = rest
 items_before (s ∷ ss) rest = part_made (Ok (view s)) (items_before ss rest)
 
-pub items_before-push : (ss : List Snap) (s : Snap) (rest : Outcome (Parts (Unit {0}))) → items_before (ss ++ s ∷ []) rest ≡ items_before ss (part_made (Ok (view s)) rest)
+pub items_before-push : (ss : List Snap) (s : Snap) (rest : Outcome Items) → items_before (ss ++ s ∷ []) rest ≡ items_before ss (part_made (Ok (view s)) rest)
 items_before-push [] s rest = refl
 items_before-push (r ∷ ss) s rest = ap (part_made (Ok (view r))) (items_before-push ss s rest)
 
@@ -40,10 +40,10 @@ module _ (table : Table) (defaults : List (Option Snap)) (t : ℕ) (items : List
     abbrev one : Outcome Value
     one = under (decimal i) (maker_of table defaults (view item) t)
 
-    abbrev rest : Outcome (Parts (Unit {0}))
+    abbrev rest : Outcome Items
     rest = items_made (i + 1) t (makers_of table defaults (items_view (drop (i + 1) items)))
 
-    abbrev whole : Outcome (Parts (Unit {0}))
+    abbrev whole : Outcome Items
     whole = items_made 0 t (makers_of table defaults (items_view items))
 
     -- the items that are left begin with this one

@@ -6,7 +6,7 @@ use Rattle.std.proofs.lemmas.Cmp.{nat_list_eq_equiv}
 use Rattle.std.proofs.lemmas.Slice.Eq.{bytes_eq-Decides}
 use Rattle.std.proofs.lemmas.Map.Views.{Contains-from_any, list_any-from_Contains}
 use Rattle.std.proofs.lemmas.List.Sums.{AllPass-from_list_all, list_all-from_AllPass}
-use Rattle.snap_core.specs.Value.{Value, null, boolean, integer, text, list, dict, Parts, no_parts, part, Members, no_members, member}
+use Rattle.snap_core.specs.Value.{Value, null, boolean, integer, text, list, dict, no_parts, part, no_members, member, Items, Fields}
 use Rattle.snap_core.specs.View.{view}
 use Rattle.snap_core.specs.declared.snap.Snap.{Snap}
 use Rattle.snap_core.specs.declared.number.TypeNo.{TypeNo}
@@ -144,39 +144,39 @@ absent_made-sound table defaults made t s (Some (Map u)) e h = made-as table t N
 absent_made-sound table defaults made t s o e h = cc
 
 -- what is made of the value under each key is in the table
-abbrev pub AreSound : Table → List (Option Snap) → Members (Unit {0}) → Type 0
+abbrev pub AreSound : Table → List (Option Snap) → Fields → Type 0
 AreSound table defaults ms = (key : List ℕ) (v : Value) → value_at key ms ≡ Some v → (t : ℕ) (s : Value) → maker_of table defaults v t ≡ Ok s → Makes table t (Some v) s
 
 -- what is made of each value is in the table, one after the other
-abbrev pub ItemsSound : Table → List (Option Snap) → Parts (Unit {0}) → Type 0
-ItemsSound table defaults ps = (i t : ℕ) (made : Parts (Unit {0})) → items_made i t (makers_of table defaults ps) ≡ Ok made → MakesItems table t ps made
+abbrev pub ItemsSound : Table → List (Option Snap) → Items → Type 0
+ItemsSound table defaults ps = (i t : ℕ) (made : Items) → items_made i t (makers_of table defaults ps) ≡ Ok made → MakesItems table t ps made
 
-abbrev pub ValuesSound : Table → List (Option Snap) → Members (Unit {0}) → Type 0
-ValuesSound table defaults ms = (t : ℕ) (made : Members (Unit {0})) → entries_made t (fields_of table defaults ms) ≡ Ok made → MakesValues table t ms made
+abbrev pub ValuesSound : Table → List (Option Snap) → Fields → Type 0
+ValuesSound table defaults ms = (t : ℕ) (made : Fields) → entries_made t (fields_of table defaults ms) ≡ Ok made → MakesValues table t ms made
 
 module _ (table : Table) (defaults : List (Option Snap)) (known : AreMade table defaults) where
   pub absent-sound : (t : ℕ) (s : Value) → absent table defaults t ≡ Ok s → Makes table t None s
   absent-sound t s h =
       named-leads table (length table.shapes) t None s (absent_made-sound table defaults known (named_by table t) s (shape_at table (named_by table t)) refl h)
 
-  property-sound : (ms : Members (Unit {0})) → AreSound table defaults ms → (p : Property) (x : Option Value) (v : Value)
+  property-sound : (ms : Fields) → AreSound table defaults ms → (p : Property) (x : Option Value) (v : Value)
       → value_at p.name ms ≡ x → made_by table defaults p.of.0 x ≡ Ok v → Makes table p.of.0 x v
   property-sound ms sound p None v e h = absent-sound p.of.0 v h
   property-sound ms sound p (Some w) v e h = sound p.name w e p.of.0 v h
 
-  each-sound : (ms : Members (Unit {0})) → AreSound table defaults ms → (ps : List Property) (made : Members (Unit {0}))
+  each-sound : (ms : Fields) → AreSound table defaults ms → (ps : List Property) (made : Fields)
       → properties_made (absent table defaults) ps (fields_of table defaults ms) ≡ Ok made → MakesEach table ms ps made
   each-sound ms sound [] made h =
-      let P : Members (Unit {0}) → Type 0 = MakesEach table ms [] in
+      let P : Fields → Type 0 = MakesEach table ms [] in
       let e : no_members ≡ made = cc in subst P e (no_more ms)
   each-sound ms sound (p ∷ ps) made h =
       let fields = fields_of table defaults ms in
       let parts = entry_made-Ok p.name (property_made (absent table defaults) p (field_at p.name fields)) (properties_made (absent table defaults) ps fields) made h in
       let one = property-sound ms sound p (value_at p.name ms) parts.0 refl (sym (property_made-made_by table defaults p ms) ∙ parts.2) in
-      let P : Members (Unit {0}) → Type 0 = MakesEach table ms (p ∷ ps) in
+      let P : Fields → Type 0 = MakesEach table ms (p ∷ ps) in
       subst P (sym parts.4) (one_more ms p ps parts.0 parts.1 one (each-sound ms sound ps parts.1 parts.3))
 
-  list-sound : (ps : Parts (Unit {0})) → ItemsSound table defaults ps → (t : ℕ) (s : Value) (shape : Shape)
+  list-sound : (ps : Items) → ItemsSound table defaults ps → (t : ℕ) (s : Value) (shape : Shape)
       → shape_at table t ≡ Some shape → list_made (list tt ps) (makers_of table defaults ps) (Some shape) ≡ Ok s → Makes table t (Some (list tt ps)) s
   list-sound ps sound t s (Array u) e h =
       let parts = list_of-Ok (items_made 0 u.0 (makers_of table defaults ps)) s h in
@@ -185,7 +185,7 @@ module _ (table : Table) (defaults : List (Option Snap)) (known : AreMade table 
   list-sound ps sound t s Frozen e h = made-as table t (Some (list tt ps)) (list tt ps) s h (frozen t (list tt ps) e)
   list-sound ps sound t s shape e h = cc
 
-  dict-sound : (ms : Members (Unit {0})) → AreSound table defaults ms → ValuesSound table defaults ms → (t : ℕ) (s : Value) (shape : Shape)
+  dict-sound : (ms : Fields) → AreSound table defaults ms → ValuesSound table defaults ms → (t : ℕ) (s : Value) (shape : Shape)
       → shape_at table t ≡ Some shape → dict_made table (absent table defaults) (dict tt ms) (fields_of table defaults ms) (Some shape) ≡ Ok s
       → Makes table t (Some (dict tt ms)) s
   dict-sound ms sound values t s (Map u) e h =
@@ -212,25 +212,25 @@ module _ (table : Table) (defaults : List (Option Snap)) (known : AreMade table 
         judged-sound table (dict a ms) t s (dict_made table (absent table defaults) (dict a ms) (fields_of table defaults ms)) (λ e. cc)
         (λ k shape. dict-sound ms (fields-sound ms) (values-sound ms) k s shape) h
 
-    pub items-sound : (ps : Parts (Unit {0})) → ItemsSound table defaults ps
+    pub items-sound : (ps : Items) → ItemsSound table defaults ps
     items-sound no_parts = λ i t made h.
-        let P : Parts (Unit {0}) → Type 0 = MakesItems table t no_parts in
+        let P : Items → Type 0 = MakesItems table t no_parts in
         let e : no_parts ≡ made = cc in subst P e (no_items t)
     items-sound (part v ps) = λ i t made h.
         let parts = part_made-Ok (maker_of table defaults v t) (items_made (i + 1) t (makers_of table defaults ps)) (decimal i) made h in
-        let P : Parts (Unit {0}) → Type 0 = MakesItems table t (part v ps) in
+        let P : Items → Type 0 = MakesItems table t (part v ps) in
         subst P (sym parts.4) (one_item t v parts.0 ps parts.1 (maker_of-sound v t parts.0 parts.2) (items-sound ps (i + 1) t parts.1 parts.3))
 
-    pub values-sound : (ms : Members (Unit {0})) → ValuesSound table defaults ms
+    pub values-sound : (ms : Fields) → ValuesSound table defaults ms
     values-sound no_members = λ t made h.
-        let P : Members (Unit {0}) → Type 0 = MakesValues table t no_members in
+        let P : Fields → Type 0 = MakesValues table t no_members in
         let e : no_members ≡ made = cc in subst P e (no_values t)
     values-sound (member k v ms) = λ t made h.
         let parts = entry_made-Ok k (maker_of table defaults v t) (entries_made t (fields_of table defaults ms)) made h in
-        let P : Members (Unit {0}) → Type 0 = MakesValues table t (member k v ms) in
+        let P : Fields → Type 0 = MakesValues table t (member k v ms) in
         subst P (sym parts.4) (one_value t k v parts.0 ms parts.1 (maker_of-sound v t parts.0 parts.2) (values-sound ms t parts.1 parts.3))
 
-    pub fields-sound : (ms : Members (Unit {0})) → AreSound table defaults ms
+    pub fields-sound : (ms : Fields) → AreSound table defaults ms
     fields-sound no_members = λ key v e t s h. cc
     fields-sound (member k w ms) = λ key v e t s h.
         elim (bytes_eq key k) as (λ b. (if b then Some w else value_at key ms) ≡ Some v → Makes table t (Some v) s) [
@@ -361,15 +361,15 @@ module _ (table : Table) (defaults : List (Option Snap)) (loopless : IsLoopless 
           ∙ ap record_of (each-complete given (properties_of table m.0) made each)
       made_by-complete _ _ _ (name t u x s e made) = name-same t u x e ∙ made_by-complete u.0 x s made
 
-      pub items-complete : (t : ℕ) (given made : Parts (Unit {0})) → MakesItems table t given made → (i : ℕ) → items_made i t (makers_of table defaults given) ≡ Ok made
+      pub items-complete : (t : ℕ) (given made : Items) → MakesItems table t given made → (i : ℕ) → items_made i t (makers_of table defaults given) ≡ Ok made
       items-complete _ _ _ (no_items t) = λ i. refl
       items-complete _ _ _ (one_item t v s given made one rest) = λ i. rw (made_by-complete t (Some v) s one, items-complete t given made rest (i + 1))
 
-      pub values-complete : (t : ℕ) (given made : Members (Unit {0})) → MakesValues table t given made → entries_made t (fields_of table defaults given) ≡ Ok made
+      pub values-complete : (t : ℕ) (given made : Fields) → MakesValues table t given made → entries_made t (fields_of table defaults given) ≡ Ok made
       values-complete _ _ _ (no_values t) = refl
       values-complete _ _ _ (one_value t k v s given made one rest) = rw (made_by-complete t (Some v) s one, values-complete t given made rest)
 
-      pub each-complete : (given : Members (Unit {0})) (ps : List Property) (made : Members (Unit {0}))
+      pub each-complete : (given : Fields) (ps : List Property) (made : Fields)
           → MakesEach table given ps made → properties_made (absent table defaults) ps (fields_of table defaults given) ≡ Ok made
       each-complete _ _ _ (no_more given) = refl
       each-complete _ _ _ (one_more given p ps v made one rest) =
@@ -390,15 +390,15 @@ module _ (table : Table) (old new : List (Option Snap)) (stays : (t : ℕ) (s : 
   absent-more t s h = absent_made-more (named_by table t) (shape_at table (named_by table t)) s h
 
   -- the value under each key is made as before
-  abbrev pub StayMade : Members (Unit {0}) → Type 0
+  abbrev pub StayMade : Fields → Type 0
   StayMade ms = (key : List ℕ) (v : Value) → value_at key ms ≡ Some v → (t : ℕ) (s : Value) → maker_of table old v t ≡ Ok s → maker_of table new v t ≡ Ok s
 
-  property-more : (ms : Members (Unit {0})) → StayMade ms → (p : Property) (x : Option Value) (v : Value)
+  property-more : (ms : Fields) → StayMade ms → (p : Property) (x : Option Value) (v : Value)
       → value_at p.name ms ≡ x → made_by table old p.of.0 x ≡ Ok v → made_by table new p.of.0 x ≡ Ok v
   property-more ms stay p None v e h = absent-more p.of.0 v h
   property-more ms stay p (Some w) v e h = stay p.name w e p.of.0 v h
 
-  each-more : (ms : Members (Unit {0})) → StayMade ms → (ps : List Property) (made : Members (Unit {0}))
+  each-more : (ms : Fields) → StayMade ms → (ps : List Property) (made : Fields)
       → properties_made (absent table old) ps (fields_of table old ms) ≡ Ok made → properties_made (absent table new) ps (fields_of table new ms) ≡ Ok made
   each-more ms stay [] made h = h
   each-more ms stay (p ∷ ps) made h =
@@ -408,15 +408,15 @@ module _ (table : Table) (old new : List (Option Snap)) (stays : (t : ℕ) (s : 
       let rest = each-more ms stay ps parts.1 parts.3 in
       rw (property_made-made_by table new p ms ∙ one, rest) (ap Ok (sym parts.4))
 
-  list-more : (a : Unit {0}) (ps : Parts (Unit {0})) → ((i t : ℕ) (made : Parts (Unit {0})) → items_made i t (makers_of table old ps) ≡ Ok made → items_made i t (makers_of table new ps) ≡ Ok made)
+  list-more : (a : Unit {0}) (ps : Items) → ((i t : ℕ) (made : Items) → items_made i t (makers_of table old ps) ≡ Ok made → items_made i t (makers_of table new ps) ≡ Ok made)
       → (o : Option Shape) (s : Value) → list_made (list a ps) (makers_of table old ps) o ≡ Ok s → list_made (list a ps) (makers_of table new ps) o ≡ Ok s
   list-more a ps stay (Some (Array u)) s h =
       let parts = list_of-Ok (items_made 0 u.0 (makers_of table old ps)) s h in rw (stay 0 u.0 parts.0 parts.1) (ap Ok (sym parts.2))
   list-more a ps stay (Some Frozen) s h = h
   list-more a ps stay o s h = cc
 
-  dict-more : (a : Unit {0}) (ms : Members (Unit {0})) → StayMade ms
-      → ((t : ℕ) (made : Members (Unit {0})) → entries_made t (fields_of table old ms) ≡ Ok made → entries_made t (fields_of table new ms) ≡ Ok made)
+  dict-more : (a : Unit {0}) (ms : Fields) → StayMade ms
+      → ((t : ℕ) (made : Fields) → entries_made t (fields_of table old ms) ≡ Ok made → entries_made t (fields_of table new ms) ≡ Ok made)
       → (o : Option Shape) (s : Value) → dict_made table (absent table old) (dict a ms) (fields_of table old ms) o ≡ Ok s
       → dict_made table (absent table new) (dict a ms) (fields_of table new ms) o ≡ Ok s
   dict-more a ms stay values (Some (Map u)) s h =
@@ -437,21 +437,21 @@ module _ (table : Table) (old new : List (Option Snap)) (stays : (t : ℕ) (s : 
     maker_of-more (list a ps) t s h = list-more a ps (items-more ps) (judged_by table (list a ps) t) s h
     maker_of-more (dict a ms) t s h = dict-more a ms (fields-more ms) (values-more ms) (judged_by table (dict a ms) t) s h
 
-    pub items-more : (ps : Parts (Unit {0})) (i t : ℕ) (made : Parts (Unit {0}))
+    pub items-more : (ps : Items) (i t : ℕ) (made : Items)
         → items_made i t (makers_of table old ps) ≡ Ok made → items_made i t (makers_of table new ps) ≡ Ok made
     items-more no_parts = λ i t made h. h
     items-more (part v ps) = λ i t made h.
         let parts = part_made-Ok (maker_of table old v t) (items_made (i + 1) t (makers_of table old ps)) (decimal i) made h in
         rw (maker_of-more v t parts.0 parts.2, items-more ps (i + 1) t parts.1 parts.3) (ap Ok (sym parts.4))
 
-    pub values-more : (ms : Members (Unit {0})) (t : ℕ) (made : Members (Unit {0}))
+    pub values-more : (ms : Fields) (t : ℕ) (made : Fields)
         → entries_made t (fields_of table old ms) ≡ Ok made → entries_made t (fields_of table new ms) ≡ Ok made
     values-more no_members = λ t made h. h
     values-more (member k v ms) = λ t made h.
         let parts = entry_made-Ok k (maker_of table old v t) (entries_made t (fields_of table old ms)) made h in
         rw (maker_of-more v t parts.0 parts.2, values-more ms t parts.1 parts.3) (ap Ok (sym parts.4))
 
-    pub fields-more : (ms : Members (Unit {0})) → StayMade ms
+    pub fields-more : (ms : Fields) → StayMade ms
     fields-more no_members = λ key v e t s h. cc
     fields-more (member k w ms) = λ key v e t s h.
         elim (bytes_eq key k) as (λ b. (if b then Some w else value_at key ms) ≡ Some v → maker_of table new v t ≡ Ok s) [

@@ -1,7 +1,7 @@
 -- What an outcome that is made comes from.
 use Rattle.std.proofs.Common.{◌≡◌, ℕ, List, Bool, true, false, Option, Some, None, Ok, Err, if◌then◌else◌, option_map, refl, ◌∙◌, ap}
 use Rattle.std.specs.Str.{bytes_eq}
-use Rattle.snap_core.specs.Value.{Value, list, dict, Parts, part, Members, no_members, member}
+use Rattle.snap_core.specs.Value.{Value, list, dict, part, no_members, member, Items, Fields}
 use Rattle.snap_core.specs.declared.snap.Snap.{Snap}
 use Rattle.type_core.specs.declared.shape.Property.{Property}
 use Rattle.type_core.specs.Table.{Table}
@@ -9,28 +9,28 @@ use Rattle.snap_core.specs.Value.{value_at}
 use Rattle.type_core.specs.Making.{Outcome, under, Maker, default_made, absent, part_made, entry_made, field_at, property_made, list_of, record_of, maker_of, fields_of, made_by}
 
 -- what an item or an entry in front that is made comes from
-pub part_made-Ok : (o : Outcome Value) (rest : Outcome (Parts (Unit {0}))) (token : List ℕ) (ps : Parts (Unit {0}))
-    → part_made (under token o) rest ≡ Ok ps → (v : Value) × (vs : Parts (Unit {0})) × (o ≡ Ok v) × (rest ≡ Ok vs) × (ps ≡ part v vs)
+pub part_made-Ok : (o : Outcome Value) (rest : Outcome Items) (token : List ℕ) (ps : Items)
+    → part_made (under token o) rest ≡ Ok ps → (v : Value) × (vs : Items) × (o ≡ Ok v) × (rest ≡ Ok vs) × (ps ≡ part v vs)
 part_made-Ok (Err e) rest token ps h = cc
 part_made-Ok (Ok v) (Err e) token ps h = cc
 part_made-Ok (Ok v) (Ok vs) token ps h = (v, vs, refl, refl, cc)
 
-pub entry_made-Ok : (key : List ℕ) (o : Outcome Value) (rest : Outcome (Members (Unit {0}))) (ms : Members (Unit {0}))
-    → entry_made key (under key o) rest ≡ Ok ms → (v : Value) × (vs : Members (Unit {0})) × (o ≡ Ok v) × (rest ≡ Ok vs) × (ms ≡ member key v vs)
+pub entry_made-Ok : (key : List ℕ) (o : Outcome Value) (rest : Outcome Fields) (ms : Fields)
+    → entry_made key (under key o) rest ≡ Ok ms → (v : Value) × (vs : Fields) × (o ≡ Ok v) × (rest ≡ Ok vs) × (ms ≡ member key v vs)
 entry_made-Ok key (Err e) rest ms h = cc
 entry_made-Ok key (Ok v) (Err e) ms h = cc
 entry_made-Ok key (Ok v) (Ok vs) ms h = (v, vs, refl, refl, cc)
 
-pub list_of-Ok : (o : Outcome (Parts (Unit {0}))) (s : Value) → list_of o ≡ Ok s → (ps : Parts (Unit {0})) × (o ≡ Ok ps) × (s ≡ list tt ps)
+pub list_of-Ok : (o : Outcome Items) (s : Value) → list_of o ≡ Ok s → (ps : Items) × (o ≡ Ok ps) × (s ≡ list tt ps)
 list_of-Ok (Err e) s h = cc
 list_of-Ok (Ok ps) s h = (ps, refl, cc)
 
-pub record_of-Ok : (o : Outcome (Members (Unit {0}))) (s : Value) → record_of o ≡ Ok s → (ms : Members (Unit {0})) × (o ≡ Ok ms) × (s ≡ dict tt ms)
+pub record_of-Ok : (o : Outcome Fields) (s : Value) → record_of o ≡ Ok s → (ms : Fields) × (o ≡ Ok ms) × (s ≡ dict tt ms)
 record_of-Ok (Err e) s h = cc
 record_of-Ok (Ok ms) s h = (ms, refl, cc)
 
 -- what making the value under a key comes to
-pub maker-under : (table : Table) (defaults : List (Option Snap)) (key : List ℕ) (ms : Members (Unit {0}))
+pub maker-under : (table : Table) (defaults : List (Option Snap)) (key : List ℕ) (ms : Fields)
     → field_at key (fields_of table defaults ms) ≡ option_map (maker_of table defaults) (value_at key ms)
 maker-under table defaults key no_members = refl
 maker-under table defaults key (member k v ms) =
@@ -39,7 +39,7 @@ maker-under table defaults key (member k v ms) =
     (option_map (maker_of table defaults) (if b then Some v else value_at key ms)) in
     elim (bytes_eq key k) as P [ true ↦ refl | false ↦ maker-under table defaults key ms ]
 
-pub property_made-made_by : (table : Table) (defaults : List (Option Snap)) (p : Property) (ms : Members (Unit {0}))
+pub property_made-made_by : (table : Table) (defaults : List (Option Snap)) (p : Property) (ms : Fields)
     → property_made (absent table defaults) p (field_at p.name (fields_of table defaults ms)) ≡ made_by table defaults p.of.0 (value_at p.name ms)
 property_made-made_by table defaults p ms = ap (property_made (absent table defaults) p) (maker-under table defaults p.name ms) ∙ by_value (value_at p.name ms)
   where

@@ -2,7 +2,7 @@
 use Rattle.std.proofs.Common.{◌≡◌, ℕ, List, [], ◌∷◌, Bool, true, false, Option, Some, None, if◌then◌else◌, refl, subst, ◌<◌, length, get_or, zero, suc, arith}
 use Rattle.std.specs.Option.{option_map}
 use Rattle.std.specs.Str.{bytes_eq}
-use Rattle.snap_core.specs.Value.{Value, Members, no_members, member, IsPlain, ArePlainMembers, ArePlain}
+use Rattle.snap_core.specs.Value.{Value, no_members, member, IsPlain, ArePlainMembers, ArePlain, Fields}
 use Rattle.snap_core.specs.declared.snap.Field.{Field}
 use Rattle.snap_core.specs.declared.snap.Snap.{Snap}
 use Rattle.snap_core.specs.View.{view, fields_view, items_view}
@@ -13,7 +13,7 @@ use Rattle.snap_core.specs.Value.{value_at}
 use Rattle.snap_core.proofs.Views.{entry-fields}
 
 -- what stands under a key is what making the value under it comes to
-pub field_at-fields_of : (table : Table) (defaults : List (Option Snap)) (key : List ℕ) (ms : Members (Unit {0}))
+pub field_at-fields_of : (table : Table) (defaults : List (Option Snap)) (key : List ℕ) (ms : Fields)
     → field_at key (fields_of table defaults ms) ≡ option_map (maker_of table defaults) (value_at key ms)
 field_at-fields_of table defaults key no_members = refl
 field_at-fields_of table defaults key (member k v ms) =
@@ -33,7 +33,7 @@ plain_item (s ∷ ss) zero item plain within = plain.0
 plain_item (s ∷ ss) (suc at) item plain within = plain_item ss at item plain.1 (omega arith)
 
 -- what a property comes to where the record has a field of its name, and where it has none
-module _ (table : Table) (defaults : List (Option Snap)) (absent : Maker) (p : Property) (ms : Members (Unit {0})) where
+module _ (table : Table) (defaults : List (Option Snap)) (absent : Maker) (p : Property) (ms : Fields) where
   pub property_made-present : (v : Value) → value_at p.name ms ≡ Some v
       → property_made absent p (field_at p.name (fields_of table defaults ms)) ≡ maker_of table defaults v p.of.0
   property_made-present v h = rw (field_at-fields_of table defaults p.name ms, h)

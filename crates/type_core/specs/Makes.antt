@@ -1,6 +1,6 @@
 -- Making as a table: which types make which inputs into which values, one case a row.
 use Rattle.std.specs.Prelude.{◌≡◌, ◌≢◌, ℕ, ℤ, List, [], ◌∷◌, Bool, IsTrue, Option, Some, None, All, Contains}
-use Rattle.snap_core.specs.Value.{Value, null, boolean, integer, text, list, dict, Parts, no_parts, part, Members, no_members, member, value_at}
+use Rattle.snap_core.specs.Value.{Value, null, boolean, integer, text, list, dict, no_parts, part, no_members, member, value_at, Items, Fields}
 use Rattle.snap_core.specs.View.{view}
 use Rattle.snap_core.specs.declared.snap.Snap.{Snap}
 use Rattle.snap_core.specs.declared.number.ModelNo.{ModelNo}
@@ -60,16 +60,16 @@ mutual
         → shape_at table t ≡ Some (Refinement u cs) → IsTrue (is_based (shape_by table u.0) v)
         → All (λ c. IsTrue (admits v c)) cs → Makes table t (Some v) v
     -- an array and a map make each part by their type, and are empty where no value is given
-    array : (t : ℕ) (u : TypeNo) (given made : Parts (Unit {0})) → shape_at table t ≡ Some (Array u)
+    array : (t : ℕ) (u : TypeNo) (given made : Items) → shape_at table t ≡ Some (Array u)
         → MakesItems table u.0 given made → Makes table t (Some (list tt given)) (list tt made)
     array_absent : (t : ℕ) (u : TypeNo) → shape_at table t ≡ Some (Array u)
         → Makes table t None (list tt no_parts)
-    map : (t : ℕ) (u : TypeNo) (given made : Members (Unit {0})) → shape_at table t ≡ Some (Map u)
+    map : (t : ℕ) (u : TypeNo) (given made : Fields) → shape_at table t ≡ Some (Map u)
         → MakesValues table u.0 given made → Makes table t (Some (dict tt given)) (dict tt made)
     map_absent : (t : ℕ) (u : TypeNo) → shape_at table t ≡ Some (Map u)
         → Makes table t None (dict tt no_members)
     -- a model makes a record of its properties
-    model : (t : ℕ) (m : ModelNo) (given made : Members (Unit {0})) → shape_at table t ≡ Some (Model m)
+    model : (t : ℕ) (m : ModelNo) (given made : Fields) → shape_at table t ≡ Some (Model m)
         → MakesEach table given (properties_of table m.0) made
         → Makes table t (Some (dict tt given)) (dict tt made)
     -- a name makes what the type makes that it stands for
@@ -77,23 +77,23 @@ mutual
         → Makes table u.0 x s → Makes table t x s
 
   -- each item is made by the type
-  pub data MakesItems (table : Table) : ℕ → Parts (Unit {0}) → Parts (Unit {0}) → Type 0 where
+  pub data MakesItems (table : Table) : ℕ → Items → Items → Type 0 where
     no_items : (t : ℕ) → MakesItems table t no_parts no_parts
-    one_item : (t : ℕ) (v s : Value) (given made : Parts (Unit {0})) → Makes table t (Some v) s
+    one_item : (t : ℕ) (v s : Value) (given made : Items) → Makes table t (Some v) s
         → MakesItems table t given made → MakesItems table t (part v given) (part s made)
 
   -- each value of a record is made by the type, under its key
-  pub data MakesValues (table : Table) : ℕ → Members (Unit {0}) → Members (Unit {0}) → Type 0 where
+  pub data MakesValues (table : Table) : ℕ → Fields → Fields → Type 0 where
     no_values : (t : ℕ) → MakesValues table t no_members no_members
-    one_value : (t : ℕ) (k : List ℕ) (v s : Value) (given made : Members (Unit {0}))
+    one_value : (t : ℕ) (k : List ℕ) (v s : Value) (given made : Fields)
         → Makes table t (Some v) s → MakesValues table t given made
         → MakesValues table t (member k v given) (member k s made)
 
   -- Each property is made of the record's field of its name; where there is no such field, no value is given.
-  pub data MakesEach (table : Table) : Members (Unit {0}) → List Property → Members (Unit {0}) → Type 0 where
-    no_more : (given : Members (Unit {0})) → MakesEach table given [] no_members
-    one_more : (given : Members (Unit {0})) (p : Property) (ps : List Property) (v : Value)
-        (made : Members (Unit {0}))
+  pub data MakesEach (table : Table) : Fields → List Property → Fields → Type 0 where
+    no_more : (given : Fields) → MakesEach table given [] no_members
+    one_more : (given : Fields) (p : Property) (ps : List Property) (v : Value)
+        (made : Fields)
         → Makes table p.of.0 (value_at p.name given) v → MakesEach table given ps made
         → MakesEach table given (p ∷ ps) (member p.name v made)
 

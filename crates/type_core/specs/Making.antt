@@ -3,7 +3,7 @@ use Rattle.std.specs.Prelude.{ℕ, ◌+◌, ◌==◌, pos, int_le, List, [], ◌
 use Rattle.std.specs.List.{list_all, starts_with}
 use Rattle.std.specs.Str.{bytes_eq}
 use Rattle.std.specs.Fmt.{char_count}
-use Rattle.snap_core.specs.Value.{Value, null, boolean, integer, text, list, dict, Parts, no_parts, part, Members, no_members, member, weight_of, depth_of}
+use Rattle.snap_core.specs.Value.{Value, null, boolean, integer, text, list, dict, no_parts, part, no_members, member, weight_of, depth_of, Items, Fields}
 use Rattle.snap_core.specs.declared.snap.Snap.{Snap}
 use Rattle.pointer_core.specs.Path.{Path}
 use Rattle.pointer_core.specs.declared.refusal.Rule.{Rule}
@@ -86,33 +86,33 @@ abbrev pub absent : Table → List (Option Snap) → Maker
 absent table defaults t = absent_made defaults (named_by table t) (shape_at table (named_by table t))
 
 -- one item in front of those that follow, unless one of them is refused
-abbrev pub part_made : Outcome Value → Outcome (Parts (Unit {0})) → Outcome (Parts (Unit {0}))
+abbrev pub part_made : Outcome Value → Outcome Items → Outcome Items
 part_made (Err e) rest = Err e
 part_made (Ok v) (Err e) = Err e
 part_made (Ok v) (Ok made) = Ok (part v made)
 
 -- the items from this index on, each by the type
-abbrev pub items_made : ℕ → ℕ → List Maker → Outcome (Parts (Unit {0}))
+abbrev pub items_made : ℕ → ℕ → List Maker → Outcome Items
 items_made i t [] = Ok no_parts
 items_made i t (m ∷ ms) = part_made (under (decimal i) (m t)) (items_made (i + 1) t ms)
 
 -- a field of a record: its key, and what making its value comes to
-abbrev pub Fields : Type 0
-Fields = List (List ℕ × Maker)
+abbrev pub FieldMakers : Type 0
+FieldMakers = List (List ℕ × Maker)
 
 -- the entry in front of those that follow, unless one of them is refused
-abbrev pub entry_made : List ℕ → Outcome Value → Outcome (Members (Unit {0})) → Outcome (Members (Unit {0}))
+abbrev pub entry_made : List ℕ → Outcome Value → Outcome Fields → Outcome Fields
 entry_made name (Err e) rest = Err e
 entry_made name (Ok v) (Err e) = Err e
 entry_made name (Ok v) (Ok made) = Ok (member name v made)
 
 -- the values of a map, each by the type
-abbrev pub entries_made : ℕ → Fields → Outcome (Members (Unit {0}))
+abbrev pub entries_made : ℕ → FieldMakers → Outcome Fields
 entries_made t [] = Ok no_members
 entries_made t (f ∷ fs) = entry_made f.0 (under f.0 (f.1 t)) (entries_made t fs)
 
 -- what stands under a key
-abbrev pub field_at : List ℕ → Fields → Option Maker
+abbrev pub field_at : List ℕ → FieldMakers → Option Maker
 field_at key [] = None
 field_at key (f ∷ fs) = if bytes_eq key f.0 then Some f.1 else field_at key fs
 
@@ -121,18 +121,18 @@ abbrev pub property_made : Maker → Property → Option Maker → Outcome Value
 property_made absent p (Some maker) = maker p.of.0
 property_made absent p None = absent p.of.0
 
--- each property in turn, from the record's fields. Fields that are no property are dropped
-abbrev pub properties_made : Maker → List Property → Fields → Outcome (Members (Unit {0}))
+-- each property in turn, from the record's fields. FieldMakers that are no property are dropped
+abbrev pub properties_made : Maker → List Property → FieldMakers → Outcome Fields
 properties_made absent [] fields = Ok no_members
 properties_made absent (p ∷ ps) fields =
     entry_made p.name (under p.name (property_made absent p (field_at p.name fields))) (properties_made absent ps fields)
 
 -- the list with those items, the record with those entries
-abbrev pub list_of : Outcome (Parts (Unit {0})) → Outcome Value
+abbrev pub list_of : Outcome Items → Outcome Value
 list_of (Ok made) = Ok (list tt made)
 list_of (Err e) = Err e
 
-abbrev pub record_of : Outcome (Members (Unit {0})) → Outcome Value
+abbrev pub record_of : Outcome Fields → Outcome Value
 record_of (Ok made) = Ok (dict tt made)
 record_of (Err e) = Err e
 
@@ -144,7 +144,7 @@ list_made v items _ = mistyped
 
 -- a record is made by a map's type, value by value, by a model, property by property, or kept as it is by a
 -- frozen type
-abbrev pub dict_made : Table → Maker → Value → Fields → Option Shape → Outcome Value
+abbrev pub dict_made : Table → Maker → Value → FieldMakers → Option Shape → Outcome Value
 dict_made table absent v fields (Some (Map u)) = record_of (entries_made u.0 fields)
 dict_made table absent v fields (Some (Model m)) =
     record_of (properties_made absent (properties_of table m.0) fields)
@@ -164,12 +164,12 @@ abbrev mutual
       dict_made table (absent table defaults) (dict a ms) (fields_of table defaults ms) (judged_by table (dict a ms) t)
 
   -- the items of a list
-  pub makers_of : Table → List (Option Snap) → Parts (Unit {0}) → List Maker
+  pub makers_of : Table → List (Option Snap) → Items → List Maker
   makers_of table defaults no_parts = []
   makers_of table defaults (part v ps) = maker_of table defaults v ∷ makers_of table defaults ps
 
   -- the fields of a record
-  pub fields_of : Table → List (Option Snap) → Members (Unit {0}) → Fields
+  pub fields_of : Table → List (Option Snap) → Fields → FieldMakers
   fields_of table defaults no_members = []
   fields_of table defaults (member k v ms) = (k, maker_of table defaults v) ∷ fields_of table defaults ms
 

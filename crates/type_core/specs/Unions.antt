@@ -3,7 +3,7 @@ use Rattle.std.specs.Prelude.{◌≡◌, ℕ, nat_le, IsTrue, Contains, List, []
 use Rattle.std.specs.List.{list_any, list_all, filter, find}
 use Rattle.std.specs.Ordering.{int_eq}
 use Rattle.std.specs.Str.{bytes_eq}
-use Rattle.snap_core.specs.Value.{Value, null, boolean, integer, text, list, dict, Members, value_at}
+use Rattle.snap_core.specs.Value.{Value, null, boolean, integer, text, list, dict, value_at, Fields}
 use Rattle.snap_core.specs.View.{view}
 use Rattle.snap_core.specs.declared.number.TypeNo.{TypeNo}
 use Rattle.snap_core.specs.declared.number.ModelNo.{ModelNo}
@@ -130,15 +130,15 @@ chosen_by_field table ms tag (Some v) = tagged table ms tag v
 chosen_by_field table ms tag None = None
 
 -- the model that a record chooses: by the tag where there is one, otherwise the one model
-abbrev pub chosen_by_tag : Table → List (TypeNo × ModelNo) → Option (List ℕ) → Members (Unit {0}) → Option TypeNo
+abbrev pub chosen_by_tag : Table → List (TypeNo × ModelNo) → Option (List ℕ) → Fields → Option TypeNo
 chosen_by_tag table ms (Some tag) given = chosen_by_field table ms tag (value_at tag given)
 chosen_by_tag table ms None given = only_model ms
 
-abbrev pub chosen_model : Table → List (TypeNo × ModelNo) → Members (Unit {0}) → Option TypeNo
+abbrev pub chosen_model : Table → List (TypeNo × ModelNo) → Fields → Option TypeNo
 chosen_model table ms given = chosen_by_tag table ms (tag_of table ms) given
 
 -- the member that a record chooses: the map, or a model
-abbrev pub chosen_for_record : Table → List TypeNo → Option TypeNo → Members (Unit {0}) → Option TypeNo
+abbrev pub chosen_for_record : Table → List TypeNo → Option TypeNo → Fields → Option TypeNo
 chosen_for_record table ms (Some t) given = Some t
 chosen_for_record table ms None given = chosen_model table (models_of table ms) given
 
