@@ -2,3 +2,4 @@ pub mod Views
 pub mod Keys
 pub mod Finding
 pub mod Examples
+pub mod Levels
