@@ -68,7 +68,7 @@ bytes_eq-same : (key : List ℕ) → bytes_eq key key ≡ true
 bytes_eq-same key = (bytes_eq-Decides key key).1 refl
 
 -- a case for each answer of the test whether a key is the one that is looked for
-same_key : {R : Type 0} (key k : List ℕ) → (key ≡ k → bytes_eq key k ≡ true → R) → (bytes_eq key k ≡ false → R) → R
+pub same_key : {R : Type 0} (key k : List ℕ) → (key ≡ k → bytes_eq key k ≡ true → R) → (bytes_eq key k ≡ false → R) → R
 same_key {R} key k equal other = elim (bytes_eq key k) as (λ b. bytes_eq key k ≡ b → R) [
     | true ↦ λ e. equal ((bytes_eq-Decides key k).0 e) e
     | false ↦ λ e. other e
