@@ -1,3 +1,5 @@
-pub mod Path
-pub mod Rule
 pub mod Index
+pub mod Path
+pub mod Reading
+pub mod Rule
+pub mod Spelling
