@@ -1,6 +1,7 @@
 //! Places by JSON pointer (RFC 6901), and refusals that name a place and a rule.
 #![tactic(auto)]
 
+mod display;
 mod error;
 mod index;
 mod parse;
