@@ -74,13 +74,6 @@ impl Pointer {
         self.tokens.get(at)
     }
 
-    /// The tokens, from the root on.
-    pub fn tokens(&self) -> &[Token]
-        ensures { result.now ≡ self.now }
-    {
-        self.tokens.as_slice()
-    }
-
     /// Goes one step further down. The token is gone where memory runs out.
     pub fn push(&mut self, token: Token) -> Result<(), AllocError>
         ensures ok { OnOk result (self.new ≡ self.old ++ token ∷ []) }
