@@ -3,3 +3,4 @@ pub mod Inverses
 pub mod Ordered
 pub mod TakenBack
 pub mod InPlace
+pub mod Readings

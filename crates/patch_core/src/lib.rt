@@ -7,8 +7,14 @@ mod fields;
 mod items;
 mod laws;
 mod patch;
+mod patches;
+mod printing;
+mod reading;
 
 pub use application::apply;
 pub use error::PatchError;
 pub use laws::{changes_are_taken_back, inverse_leads_back};
-pub use patch::{Patch, PatchOp};
+pub use patch::{Patch, PatchOp, inverse};
+pub use patches::{Patches, reversed};
+pub use printing::print_patches;
+pub use reading::read_patches;
