@@ -4,3 +4,4 @@ pub mod Ordered
 pub mod TakenBack
 pub mod InPlace
 pub mod Readings
+pub mod ReadBack

@@ -1,8 +1,11 @@
 -- Keys stay in ascending order, whatever patch is applied.
-use Rattle.std.proofs.Common.{◌≡◌, ℕ, List, [], ◌∷◌, Option, Some, None, Result, Ok, Err, refl, subst}
-use Rattle.std.specs.Prelude.{is_some, if◌then◌else◌}
+use Rattle.std.proofs.Common.{◌≡◌, ℕ, List, [], ◌∷◌, Option, Some, None, Result, Ok, Err, refl, sym, subst}
+use Rattle.std.specs.Prelude.{is_some, OnErr, if◌then◌else◌}
 use Rattle.std.specs.Option.{option_map}
-use Rattle.snap_core.specs.Value.{Tree, TreeItems, TreeFields, list, dict, value_at, IsOrdered, AreOrdered, AreOrderedMembers}
+use Rattle.snap_core.specs.View.{view}
+use Rattle.snap_core.specs.declared.snap.Snap.{Snap}
+use Rattle.patch_core.specs.Outcome.{Answers}
+use Rattle.snap_core.specs.Value.{Value, Tree, TreeItems, TreeFields, list, dict, value_at, IsOrdered, AreOrdered, AreOrderedMembers}
 use Rattle.snap_core.specs.Level.{Step, count_of, child, set_child, set_field, insert_field, remove_field, set_item, insert_item, remove_item}
 use Rattle.snap_core.proofs.Levels.{AreOrdered-set_item, AreOrdered-insert_item, AreOrdered-remove_item, AreOrderedMembers-set_field, AreOrderedMembers-insert_field, AreOrderedMembers-remove_field, IsOrdered-child, IsOrdered-set_child}
 use Rattle.pointer_core.specs.Path.{Path}
@@ -29,15 +32,15 @@ item_ordered Remove i v ps one all = AreOrdered-remove_item i ps all
 
 held_ordered : {A : Type 0} (key : List ℕ) (ms after : TreeFields A) → AreOrderedMembers after → Holds (λ ns. AreOrderedMembers ns) (where_held key ms after)
 held_ordered {A} key ms after all = elim (value_at key ms) as (λ o. Holds (λ (ns : TreeFields A). AreOrderedMembers ns) (if is_some o then Ok after else Err error.Path)) [
-    | None ↦ tt
-    | Some w ↦ all
-  ]
+  | None ↦ tt
+  | Some w ↦ all
+]
 
 items_ordered : {A : Type 0} (op : PatchOp) (token : List ℕ) (v : Tree A) (ps : TreeItems A) → IsOrdered v → AreOrdered ps → Holds (λ qs. AreOrdered qs) (items_after op token v ps)
 items_ordered {A} op token v ps one all = elim (index_for op (count_of ps) token) as (λ o. Holds (λ (qs : TreeItems A). AreOrdered qs) (with_index (λ i. items_changed op i v ps) o)) [
-    | None ↦ tt
-    | Some i ↦ item_ordered op i v ps one all
-  ]
+  | None ↦ tt
+  | Some i ↦ item_ordered op i v ps one all
+]
 
 fields_ordered : {A : Type 0} (op : PatchOp) (key : List ℕ) (v : Tree A) (ms : TreeFields A) → IsOrdered v → AreOrderedMembers ms → Holds (λ ns. AreOrderedMembers ns) (fields_after op key v ms)
 fields_ordered {A} Add key v ms one all =
@@ -73,3 +76,9 @@ pub IsOrdered-changed : {A : Type 0} (op : PatchOp) (path : Path) (v t u : Tree 
 IsOrdered-changed {A} op path v t u one ordered leads =
     let P : Result (Tree A) PatchError → Type 0 = λ r. Holds (λ (x : Tree A). IsOrdered x) r in
     subst P leads (changed_ordered op path v t one ordered)
+
+-- a value that was changed in place, or left as it was
+pub stays_ordered : (r : Result (Unit {0}) PatchError) (outcome : Result Value PatchError) (s t : Snap) → Holds (λ u. IsOrdered u) outcome
+    → Answers r outcome (view t) → OnErr r (t ≡ s) → IsOrdered (view s) → IsOrdered (view t)
+stays_ordered (Ok done) outcome s t holds answers kept ordered = let P : Result Value PatchError → Type 0 = λ o. Holds (λ (u : Value). IsOrdered u) o in subst P answers holds
+stays_ordered (Err e) outcome s t holds answers kept ordered = let P : Snap → Type 0 = λ x. IsOrdered (view x) in subst P (sym kept) ordered

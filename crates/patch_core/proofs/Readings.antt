@@ -20,13 +20,13 @@ use Rattle.patch_core.specs.declared.patch.Patch.{Patch}
 pub path_refused : (X : Type 0) (text : List ℕ) (p : PointerError) → MatchOption (pointer_fault text) (p ≡ pointer.Memory) (λ fault. IsErrOf {T = X} (Err p) fault) → IsPathRefused text (path_error p)
 path_refused X text pointer.Memory why = tt
 path_refused X text pointer.NoSlash why = elim (pointer_fault text) as (λ o. MatchOption o (pointer.NoSlash ≡ pointer.Memory) (λ fault. IsErrOf {T = X} (Err pointer.NoSlash) fault) → IsSome o) [
-    | None ↦ λ e. cc
-    | Some fault ↦ λ e. refl
-  ] why
+  | None ↦ λ e. cc
+  | Some fault ↦ λ e. refl
+] why
 path_refused X text (pointer.BadTilde at) why = elim (pointer_fault text) as (λ o. MatchOption o (pointer.BadTilde at ≡ pointer.Memory) (λ fault. IsErrOf {T = X} (Err (pointer.BadTilde at)) fault) → IsSome o) [
-    | None ↦ λ e. cc
-    | Some fault ↦ λ e. refl
-  ] why
+  | None ↦ λ e. cc
+  | Some fault ↦ λ e. refl
+] why
 
 any_behind : (P : Spelling → Type 0) (front : List Spelling) (s : Spelling) (rest : List Spelling) → P s → Any P (front ++ s ∷ rest)
 any_behind P front s rest bad = (length front, s, omega (arith, length-append front (s ∷ rest)), get_or-append_seam front s rest s, bad)
@@ -45,18 +45,18 @@ refused_here ps v rest all error.Pointer is some why =
     elim (spelling_of v) as (λ o. option_map (λ later. map spelling_for ps ++ later) (both o (spellings_of rest)) ≡ all → IsSomeAnd o HasNoPointer → IsSomeAnd all (Any HasNoPointer)) [
       | None ↦ λ e bad. absurd bad
       | Some s ↦ λ e bad. elim (spellings_of rest) as (λ q. option_map (λ later. map spelling_for ps ++ later) (both (Some s) q) ≡ all → IsSomeAnd all (Any HasNoPointer)) [
-          | None ↦ λ f. let P : Option (List Spelling) → Type 0 = IsSome in let none : IsSome {T = List Spelling} None = subst P (sym f) some in cc
-          | Some later ↦ λ f. let P : Option (List Spelling) → Type 0 = λ o. IsSomeAnd o (Any HasNoPointer) in subst P f (any_behind HasNoPointer (map spelling_for ps) s later bad)
-        ] e
+        | None ↦ λ f. let P : Option (List Spelling) → Type 0 = IsSome in let none : IsSome {T = List Spelling} None = subst P (sym f) some in cc
+        | Some later ↦ λ f. let P : Option (List Spelling) → Type 0 = λ o. IsSomeAnd o (Any HasNoPointer) in subst P f (any_behind HasNoPointer (map spelling_for ps) s later bad)
+      ] e
     ] is why
 
 -- one more patch is read
 pub read_more : (ps : List Patch) (p : Patch) (v : Value) (rest : Items) → spelling_of v ≡ Some (spelling_for p)
     → option_map (λ later. map spelling_for (ps ++ p ∷ []) ++ later) (spellings_of rest) ≡ option_map (λ later. map spelling_for ps ++ later) (both (spelling_of v) (spellings_of rest))
 read_more ps p v rest is = rw is (elim (spellings_of rest) as (λ q. option_map (λ later. map spelling_for (ps ++ p ∷ []) ++ later) q ≡ option_map (λ later. map spelling_for ps ++ later) (both (Some (spelling_for p)) q)) [
-    | None ↦ refl
-    | Some later ↦ ap Some (ap (λ front. front ++ later) (map-append spelling_for ps (p ∷ [])) ∙ append_assoc (map spelling_for ps) (spelling_for p ∷ []) later)
-  ])
+  | None ↦ refl
+  | Some later ↦ ap Some (ap (λ front. front ++ later) (map-append spelling_for ps (p ∷ [])) ∙ append_assoc (map spelling_for ps) (spelling_for p ∷ []) later)
+])
 
 -- the items that are left begin with the one that is read next
 pub left_part : (vs : List Snap) (i : ℕ) (v : Snap) → i < length vs → v ≡ get_or vs i v → items_view (drop i vs) ≡ part (view v) (items_view (drop (i + 1) vs))

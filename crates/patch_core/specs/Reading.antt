@@ -67,6 +67,10 @@ spelled_list _ = None
 abbrev pub spelling_for : Patch → Spelling
 spelling_for p = record { op = p.op; path = printed p.path; value = option_map view p.value }
 
+-- a patch that can be applied, and not taken back
+abbrev pub without_old : Patch → Patch
+without_old p = record p { old = None }
+
 -- what is spelled is these patches, without old values
 abbrev pub IsReadAs : Option (List Spelling) → List Patch → Type 0
 IsReadAs spellings ps = (spellings ≡ Some (map spelling_for ps)) × All (λ p. p.old ≡ None) ps

@@ -20,6 +20,7 @@ pub fn apply(alloc: Global, target: &mut Snap, patch: &Patch) -> Result<(), Patc
     ensures ok { OnOk result (applied patch.now (view target.old) ≡ Ok (view target.new)) }
     ensures refused { IfErr result (λ error. error ≢ PatchError.Memory → applied patch.now (view target.old) ≡ Err error) }
     ensures unchanged { OnErr result (target.new ≡ target.old) }
+    ensures ordered { IsOrdered (written patch.now) → IsOrdered (view target.new) }
 {
     change(alloc, target, patch.path.tokens(), patch)
 }

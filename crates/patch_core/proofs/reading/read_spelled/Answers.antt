@@ -31,5 +31,5 @@ loop-item-preserved c =
     record {
       ordered = rest.1;
       spelled = subst R pushed (read_more c.loop-item.patches c.in_ok-read_patch.field-0 (view c.item-item.result) (items_view (drop (c.loop-item.item-index + 1) c.args.items.now)) c.in_ok-read_patch.ensures.ok ∙ subst P left c.loop-item.invariant.spelled);
-      no_old = subst S pushed (All-push (λ p. p.old ≡ None) c.loop-item.patches c.in_ok-read_patch.field-0 c.loop-item.invariant.no_old c.in_ok-read_patch.ensures.old)
+      no_old = subst S pushed (All-push (λ p. p.old ≡ None) c.loop-item.patches c.in_ok-read_patch.field-0 c.loop-item.invariant.no_old c.in_ok-read_patch.ensures.old);
     }

@@ -9,7 +9,7 @@ use Rattle.patch_core.proofs.reading.read_spelled.Given as goal
 
 abbrev pub invariant-loop-item : goal.invariant-loop-item
 invariant-loop-item l = record {
-    ordered : AreOrdered (items_view (drop l.item-index l.items));
-    spelled : option_map (λ rest. map spelling_for l.patches ++ rest) (spellings_of (items_view (drop l.item-index l.items))) ≡ spellings_of (items_view l.items);
-    no_old : All (λ p. p.old ≡ None) l.patches
-  }
+  ordered : AreOrdered (items_view (drop l.item-index l.items));
+  spelled : option_map (λ rest. map spelling_for l.patches ++ rest) (spellings_of (items_view (drop l.item-index l.items))) ≡ spellings_of (items_view l.items);
+  no_old : All (λ p. p.old ≡ None) l.patches;
+}
