@@ -21,7 +21,7 @@ abbrev pub Holds : {X : Type 0} → (X → Type 0) → Result X PatchError → T
 Holds P (Ok x) = P x
 Holds P (Err e) = Unit {0}
 
-Holds-map : {X Y : Type 0} (P : X → Type 0) (Q : Y → Type 0) (f : X → Y) → ((x : X) → P x → Q (f x)) → (r : Result X PatchError) → Holds P r → Holds Q (outcome_map f r)
+pub Holds-map : {X Y : Type 0} (P : X → Type 0) (Q : Y → Type 0) (f : X → Y) → ((x : X) → P x → Q (f x)) → (r : Result X PatchError) → Holds P r → Holds Q (outcome_map f r)
 Holds-map P Q f carries (Ok x) h = carries x h
 Holds-map P Q f carries (Err e) h = tt
 

@@ -1,10 +1,11 @@
 //! Patches from values, as JSON bodies hold them.
-ghost use Rattle.std.specs.Prelude.{◌≡◌, None, Some, codes, is_some, Any, IsSome, IfOk, IfErr};
+ghost use Rattle.std.specs.Prelude.{◌≡◌, None, Some, codes, is_some, All, Any, IsSome, IfOk, IfErr};
 ghost use Rattle.std.specs.Option.{option_map, option_copied};
 ghost use Rattle.list_core.specs.Outcome.{Gives};
-ghost use Rattle.snap_core.specs.Value.{IsOrdered, AreOrdered, AreOrderedMembers, AreKeyed, value_at};
+ghost use Rattle.snap_core.specs.Value.{IsPlain, ArePlain, IsOrdered, AreOrdered, AreOrderedMembers, AreKeyed, value_at};
 ghost use Rattle.snap_core.specs.View.{view, items_view, fields_view};
 ghost use Rattle.pointer_core.specs.Path.{printed};
+ghost use Rattle.patch_core.specs.Application.{HasValue, written};
 ghost use Rattle.patch_core.specs.Reading.{text_in, spelled, spelled_texts, spelling_of, spellings_of, spelling_for, IsReadAs, Reads, HasNoPointer, IsPathRefused, IsRefusedAs, Refuses};
 ghost use Rattle.patch_core.specs.Drafts.{seen};
 
@@ -21,6 +22,9 @@ use std::alloc::{AllocError, Global};
 pub fn read_patches(alloc: Global, list: &Snap) -> Result<Patches, PatchError>
     requires { IsOrdered (view list.now) }
     ensures ok { IfOk result (λ patches. Reads (view list.now) patches) }
+    ensures values { IfOk result (λ patches. All HasValue patches) }
+    ensures ordered { IfOk result (λ patches. All (λ p. IsOrdered (written p)) patches) }
+    ensures plain { IsPlain (view list.now) → IfOk result (λ patches. All (λ p. IsPlain (written p)) patches) }
     ensures err { IfErr result (λ error. Refuses (view list.now) error) }
 {
     match list {
@@ -32,6 +36,9 @@ pub fn read_patches(alloc: Global, list: &Snap) -> Result<Patches, PatchError>
 fn read_items(alloc: Global, items: &[Snap]) -> Result<Patches, PatchError>
     requires { AreOrdered (items_view items.now) }
     ensures ok { IfOk result (λ patches. IsReadAs (spellings_of (items_view items.now)) patches) }
+    ensures values { IfOk result (λ patches. All HasValue patches) }
+    ensures ordered { IfOk result (λ patches. All (λ p. IsOrdered (written p)) patches) }
+    ensures plain { ArePlain (items_view items.now) → IfOk result (λ patches. All (λ p. IsPlain (written p)) patches) }
     ensures err { IfErr result (λ error. IsRefusedAs (Any HasNoPointer) (spellings_of (items_view items.now)) error) }
 {
     if are_spelled(items) {
