@@ -6,7 +6,7 @@ use Rattle.snap_core.specs.View.{view}
 use Rattle.snap_core.specs.declared.snap.Snap.{Snap}
 use Rattle.patch_core.specs.Outcome.{Answers}
 use Rattle.snap_core.specs.Value.{Value, Tree, TreeItems, TreeFields, list, dict, value_at, IsOrdered, AreOrdered, AreOrderedMembers}
-use Rattle.snap_core.specs.Level.{Step, count_of, child, set_child, set_field, insert_field, remove_field, set_item, insert_item, remove_item}
+use Rattle.snap_core.specs.Level.{Step, count_of, child, set_child, set_field, insert_field, remove_field}
 use Rattle.snap_core.proofs.Levels.{AreOrdered-set_item, AreOrdered-insert_item, AreOrdered-remove_item, AreOrderedMembers-set_field, AreOrderedMembers-insert_field, AreOrderedMembers-remove_field, IsOrdered-child, IsOrdered-set_child}
 use Rattle.pointer_core.specs.Path.{Path}
 use Rattle.patch_core.specs.Place.{step_of}

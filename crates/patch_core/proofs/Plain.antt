@@ -6,12 +6,12 @@ use Rattle.snap_core.specs.View.{view}
 use Rattle.snap_core.specs.declared.snap.Snap.{Snap}
 use Rattle.patch_core.specs.Outcome.{Answers}
 use Rattle.snap_core.specs.Value.{Value, Tree, TreeItems, TreeFields, list, dict, value_at, IsPlain, ArePlain, ArePlainMembers}
-use Rattle.snap_core.specs.Level.{Step, count_of, child, set_child, set_field, insert_field, remove_field, set_item, insert_item, remove_item}
+use Rattle.snap_core.specs.Level.{Step, count_of, child, set_child, set_field, insert_field, remove_field}
 use Rattle.snap_core.proofs.PlainLevels.{ArePlain-set_item, ArePlain-insert_item, ArePlain-remove_item, ArePlainMembers-set_field, ArePlainMembers-insert_field, ArePlainMembers-remove_field, IsPlain-child, IsPlain-set_child}
 use Rattle.patch_core.proofs.Ordered.{Holds, Holds-map}
 use Rattle.pointer_core.specs.Path.{Path}
 use Rattle.patch_core.specs.Place.{step_of}
-use Rattle.patch_core.specs.Application.{index_for, with_index, items_changed, items_after, where_held, fields_after, edited, outcome_map, inside, after_part, changed}
+use Rattle.patch_core.specs.Application.{index_for, with_index, items_changed, items_after, where_held, fields_after, edited, inside, after_part, changed}
 use Rattle.patch_core.specs.declared.error.PatchError.{PatchError}
 use Rattle.patch_core.specs.declared.error.PatchError.TheVariants as error
 use Rattle.patch_core.specs.declared.patch.PatchOp.{PatchOp}

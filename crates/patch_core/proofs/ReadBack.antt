@@ -11,7 +11,7 @@ use Rattle.pointer_core.specs.Path.{Path}
 use Rattle.pointer_core.proofs.Tokens.{same_path}
 use Rattle.patch_core.specs.Fits.{HasValues, IsComplete}
 use Rattle.patch_core.specs.Printing.{printed_patch}
-use Rattle.patch_core.specs.Reading.{Spelling, both, spelling_of, spellings_of, spelling_for, without_old}
+use Rattle.patch_core.specs.Reading.{Spelling, spelling_of, spellings_of, spelling_for, without_old}
 use Rattle.patch_core.specs.Laws.{PrintedReadsBack, ReadsOnce}
 use Rattle.patch_core.specs.declared.patch.PatchOp.{PatchOp}
 use Rattle.patch_core.specs.declared.patch.PatchOp.TheVariants.{Add, Replace, Remove}

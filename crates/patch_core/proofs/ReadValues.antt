@@ -3,7 +3,7 @@ use Rattle.std.proofs.Common.{◌≡◌, ℕ, List, [], ◌∷◌, map, Option, 
 use Rattle.std.specs.Prelude.{All, IfOk, codes, unwrap_or}
 use Rattle.std.specs.Option.{option_map}
 use Rattle.std.proofs.lemmas.List.Elements.{All-nil, All-cons}
-use Rattle.snap_core.specs.Value.{Value, Items, Fields, null, list, dict, no_parts, part, value_at, IsPlain, ArePlain, ArePlainMembers, IsOrdered, AreOrdered, AreOrderedMembers}
+use Rattle.snap_core.specs.Value.{Value, Items, Fields, null, dict, no_parts, part, value_at, IsPlain, ArePlain, IsOrdered, AreOrdered}
 use Rattle.snap_core.specs.View.{view}
 use Rattle.snap_core.specs.declared.snap.Snap.{Snap}
 use Rattle.snap_core.proofs.Keys.{IsOrdered-value_at, IsPlain-value_at}
@@ -56,7 +56,7 @@ under P key ms each = elim (value_at key ms) as (λ o. value_at key ms ≡ o →
 one_ordered : (v : Value) → IsOrdered v → Good (λ w. IsOrdered w) (spelling_of v)
 one_ordered (dict a ms) h =
     texts_good (λ w. IsOrdered w) (text_in (value_at (codes "op") ms)) (text_in (value_at (codes "path") ms)) (value_at (codes "value") ms)
-      (under (λ w. IsOrdered w) (codes "value") ms (λ v e. IsOrdered-value_at (codes "value") ms v h e))
+    (under (λ w. IsOrdered w) (codes "value") ms (λ v e. IsOrdered-value_at (codes "value") ms v h e))
 one_ordered v h = tt
 
 all_ordered : (ps : Items) → AreOrdered ps → AllGoodMaybe (λ w. IsOrdered w) (spellings_of ps)
@@ -66,7 +66,7 @@ all_ordered (part v ps) h = both_good (λ w. IsOrdered w) (spelling_of v) (spell
 one_plain : (v : Value) → IsPlain v → Good (λ w. IsPlain w) (spelling_of v)
 one_plain (dict a ms) h =
     texts_good (λ w. IsPlain w) (text_in (value_at (codes "op") ms)) (text_in (value_at (codes "path") ms)) (value_at (codes "value") ms)
-      (under (λ w. IsPlain w) (codes "value") ms (λ v e. IsPlain-value_at (codes "value") ms v h e))
+    (under (λ w. IsPlain w) (codes "value") ms (λ v e. IsPlain-value_at (codes "value") ms v h e))
 one_plain v h = tt
 
 all_plain : (ps : Items) → ArePlain ps → AllGoodMaybe (λ w. IsPlain w) (spellings_of ps)

@@ -1,6 +1,6 @@
 -- What is read of a list, one item after another.
-use Rattle.std.proofs.Common.{◌≡◌, ℕ, suc, ◌+◌, ◌<◌, List, [], ◌∷◌, ◌++◌, length, get_or, drop, map, Option, Some, None, Result, Err, refl, sym, ◌∙◌, ap, subst, append_assoc, add-one, drop-cons, arith}
-use Rattle.std.specs.Prelude.{All, Any, IsSome, IsSomeAnd, IsErrOf, MatchOption}
+use Rattle.std.proofs.Common.{◌≡◌, ℕ, suc, ◌+◌, ◌<◌, List, [], ◌∷◌, ◌++◌, length, get_or, drop, map, Option, Some, None, Err, refl, sym, ◌∙◌, ap, subst, append_assoc, add-one, drop-cons, arith}
+use Rattle.std.specs.Prelude.{Any, IsSome, IsSomeAnd, IsErrOf, MatchOption}
 use Rattle.std.specs.Option.{option_map}
 use Rattle.std.proofs.Math.Seq.{get_or-append_seam}
 use Rattle.std.proofs.lemmas.List.{map-append, length-append}

@@ -1,6 +1,6 @@
 -- The laws of inverses, for one patch and for a list.
-use Rattle.std.proofs.Common.{◌≡◌, List, [], ◌∷◌, ◌++◌, map, Option, Some, None, Result, Ok, refl, sym, ◌∙◌, ap, subst}
-use Rattle.std.specs.Prelude.{All, reverse}
+use Rattle.std.proofs.Common.{◌≡◌, List, [], ◌∷◌, ◌++◌, map, Option, Some, None, Ok, refl, sym, ◌∙◌, ap, subst}
+use Rattle.std.specs.Prelude.{reverse}
 use Rattle.std.specs.Option.{option_map}
 use Rattle.std.proofs.lemmas.List.{reverse-append, map-append}
 use Rattle.std.proofs.lemmas.List.Elements.{All-head, All-tail}
@@ -14,7 +14,7 @@ use Rattle.patch_core.specs.Laws.{InverseLeadsBack, ChangesAreTakenBack}
 use Rattle.patch_core.specs.declared.patch.PatchOp.{PatchOp}
 use Rattle.patch_core.specs.declared.patch.PatchOp.TheVariants.{Add, Replace, Remove}
 use Rattle.patch_core.specs.declared.patch.Patch.{Patch}
-use Rattle.patch_core.proofs.Inverses.{PathBack, path_back}
+use Rattle.patch_core.proofs.Inverses.{path_back}
 use Rattle.patch_core.proofs.Ordered.{IsOrdered-changed}
 
 HasValues-view : (op : PatchOp) (value old : Option Snap) → HasValues op value old → HasValues op (option_map view value) (option_map view old)

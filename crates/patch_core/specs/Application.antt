@@ -1,5 +1,5 @@
 -- What a patch makes of a value.
-use Rattle.std.specs.Prelude.{ℕ, List, [], ◌∷◌, Option, Some, None, unwrap_or, Result, Ok, Err, Bool, is_some, IsSome, if◌then◌else◌}
+use Rattle.std.specs.Prelude.{ℕ, List, [], ◌∷◌, Option, Some, None, unwrap_or, Result, Ok, Err, is_some, IsSome, if◌then◌else◌}
 use Rattle.std.specs.Option.{option_map}
 use Rattle.snap_core.specs.Value.{Value, Tree, TreeItems, TreeFields, null, list, dict, value_at}
 use Rattle.snap_core.specs.View.{view}

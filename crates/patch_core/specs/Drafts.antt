@@ -1,5 +1,4 @@
 -- What a patch that is being read spells.
-use Rattle.std.specs.Prelude.{List}
 use Rattle.std.specs.Option.{option_map, option_copied}
 use Rattle.snap_core.specs.View.{view}
 use Rattle.patch_core.specs.Reading.{Spelling}

@@ -1,5 +1,5 @@
 -- What holds of patches, whatever the values are.
-use Rattle.std.specs.Prelude.{◌≡◌, List, Result, Ok, map, All}
+use Rattle.std.specs.Prelude.{◌≡◌, List, Ok, map, All}
 use Rattle.snap_core.specs.Value.{Value, IsOrdered}
 use Rattle.patch_core.specs.Application.{applied, written}
 use Rattle.patch_core.specs.Fits.{IsComplete, Fits, LeadsTo}

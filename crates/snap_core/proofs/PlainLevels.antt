@@ -1,6 +1,6 @@
 -- Plain values stay plain when a part that is plain is set or put in, or a part is taken out.
-use Rattle.std.proofs.Common.{◌≡◌, ℕ, zero, suc, List, Option, Some, None, sym, subst}
-use Rattle.snap_core.specs.Value.{Tree, TreeItems, TreeFields, null, boolean, integer, text, list, dict, no_parts, part, no_members, member, value_at, keys_of, ComesBefore, IsPlain, ArePlain, ArePlainMembers, IsOrdered, AreOrdered, AreOrderedMembers}
+use Rattle.std.proofs.Common.{◌≡◌, ℕ, zero, suc, List, Some, None, sym, subst}
+use Rattle.snap_core.specs.Value.{Tree, TreeItems, TreeFields, null, boolean, integer, text, list, dict, no_parts, part, no_members, member, value_at, ComesBefore, IsPlain, ArePlain, ArePlainMembers, IsOrdered, AreOrdered, AreOrderedMembers}
 use Rattle.snap_core.specs.Level.{Step, at_index, at_key, item_at, set_item, insert_item, remove_item, set_field, insert_field, remove_field, child, set_child}
 use Rattle.snap_core.proofs.Levels.{same_key, key_before, other_before, keys_of-set_field, ComesBefore-insert_field, ComesBefore-remove_field}
 
@@ -54,16 +54,16 @@ ArePlainMembers-set_field key v no_members one all = all
 ArePlainMembers-set_field {A} key v (member k w ms) one all = same_key key k
     (λ same e. rw e (one, all.1, all.2))
     (λ e.
-      let P : List (List ℕ) → Type 0 = ComesBefore k in
-      rw e (all.0, subst P (sym (keys_of-set_field key v ms)) all.1, ArePlainMembers-set_field key v ms one all.2))
+    let P : List (List ℕ) → Type 0 = ComesBefore k in
+    rw e (all.0, subst P (sym (keys_of-set_field key v ms)) all.1, ArePlainMembers-set_field key v ms one all.2))
 
 pub ArePlainMembers-insert_field : {A : Type 0} (key : List ℕ) (v : Tree A) (ms : TreeFields A) → value_at key ms ≡ None → IsPlain v → ArePlainMembers ms → ArePlainMembers (insert_field key v ms)
 ArePlainMembers-insert_field key v no_members absent one all = (one, tt, tt)
 ArePlainMembers-insert_field key v (member k w ms) absent one all = same_key key k
     (λ same e. let found : Some w ≡ None = rw e at absent in cc)
     (λ e. key_before key k
-      (λ before lower. rw lower (one, before, all))
-      (λ later. rw later (all.0, ComesBefore-insert_field k key v ms (other_before key k e later) all.1, ArePlainMembers-insert_field key v ms (rw e at absent) one all.2)))
+    (λ before lower. rw lower (one, before, all))
+    (λ later. rw later (all.0, ComesBefore-insert_field k key v ms (other_before key k e later) all.1, ArePlainMembers-insert_field key v ms (rw e at absent) one all.2)))
 
 pub ArePlainMembers-remove_field : {A : Type 0} (key : List ℕ) (ms : TreeFields A) → ArePlainMembers ms → ArePlainMembers (remove_field key ms)
 ArePlainMembers-remove_field key no_members all = all

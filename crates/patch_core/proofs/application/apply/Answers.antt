@@ -15,5 +15,5 @@ pub returns-clause-plain : goal.returns-clause-plain
 returns-clause-plain c = λ one plain.
     let outcome = changed c.args.patch.now.op c.tokens.result.now (written c.args.patch.now) (view c.args.target.now) in
     stays_plain c.change.result outcome c.args.target.now c.change.new.target
-      (changed_plain c.args.patch.now.op c.tokens.result.now (written c.args.patch.now) (view c.args.target.now) one plain)
-      c.change.ensures.outcome c.change.ensures.unchanged plain
+    (changed_plain c.args.patch.now.op c.tokens.result.now (written c.args.patch.now) (view c.args.target.now) one plain)
+    c.change.ensures.outcome c.change.ensures.unchanged plain

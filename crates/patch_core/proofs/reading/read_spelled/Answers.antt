@@ -1,12 +1,11 @@
 -- The first item that isn't read decides; every other one is read behind those before it.
-use Rattle.std.proofs.Common.{◌≡◌, ◌∙◌, ◌+◌, ◌++◌, List, drop, map, None, sym, ap, subst, add-one, drop-cons}
+use Rattle.std.proofs.Common.{◌≡◌, ◌∙◌, ◌+◌, ◌++◌, List, drop, map, None, sym, subst}
 use Rattle.std.specs.Prelude.{All}
 use Rattle.std.specs.Option.{option_map}
 use Rattle.std.proofs.lemmas.Result.{err_from_is_err_and}
 use Rattle.std.proofs.lemmas.List.Elements.{All-push}
-use Rattle.snap_core.specs.Value.{Items, part, AreOrdered}
+use Rattle.snap_core.specs.Value.{Items, AreOrdered}
 use Rattle.snap_core.specs.View.{view, items_view}
-use Rattle.snap_core.specs.declared.snap.Snap.{Snap}
 use Rattle.patch_core.specs.Reading.{spellings_of, spelling_for}
 use Rattle.patch_core.specs.declared.patch.Patch.{Patch}
 use Rattle.patch_core.proofs.Readings.{left_part, refused_here, read_more}
