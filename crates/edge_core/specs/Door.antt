@@ -1,6 +1,6 @@
 -- Links: streams that bring bytes and take bytes, one after another.
 use Rattle.std.specs.Prelude.{ℕ, ◌≡◌, ◌≤◌, ◌++◌, ◌||◌, Bool, true, false, List, [], ◌∷◌, Option, Some, None, length, drop, min, not, if◌then◌else◌, option_to_list, option_map, is_some, map}
-use Rattle.edge_core.specs.Faults.{Faults, HasRisen, is_next_failing, after_call}
+use Rattle.edge_core.specs.Faults.{PlannedFaults, HasRisen, is_next_failing, after_call}
 use Rattle.edge_core.specs.Room.{has_place}
 use Rattle.edge_core.specs.declared.door.AskedPort.{AskedPort}
 use Rattle.edge_core.specs.declared.door.AskedPort.TheVariants.{Never, Once, Again}
@@ -102,7 +102,7 @@ pub record MemoryDoorState : Type 0 where
   pub links : Links
   pub cut : ℕ
   pub space : ℕ
-  pub faults : Faults
+  pub faults : PlannedFaults
 
 -- what a door in memory tells: all that it holds
 abbrev pub told_by : MemoryDoorState → DoorState

@@ -1,7 +1,7 @@
 -- Files, standard output and standard error.
 use Rattle.std.specs.Prelude.{ℕ, ◌≡◌, ◌≤◌, ◌++◌, ◌||◌, Bool, List, [], ◌∷◌, Option, Some, None, is_none, option_map, not, if◌then◌else◌}
 use Rattle.std.specs.Str.{bytes_eq}
-use Rattle.edge_core.specs.Faults.{Faults, HasRisen, is_next_failing, after_call}
+use Rattle.edge_core.specs.Faults.{PlannedFaults, HasRisen, is_next_failing, after_call}
 use Rattle.edge_core.specs.Room.{has_place}
 
 -- What a world tells. What its files hold and what was written to its streams may be told or not: `None` claims nothing. The
@@ -54,7 +54,7 @@ pub record MemoryWorldState : Type 0 where
   pub err : List ℕ
   pub asked : List (List ℕ)
   pub space : ℕ
-  pub faults : Faults
+  pub faults : PlannedFaults
 
 -- what a world in memory tells: all that it holds
 abbrev pub told_by : MemoryWorldState → WorldState
