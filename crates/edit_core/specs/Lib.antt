@@ -1,0 +1,4 @@
+pub mod Labelled
+pub mod Edit
+pub mod Comparing
+pub mod Between

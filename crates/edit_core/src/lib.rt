@@ -1,0 +1,6 @@
+//! Labelled snapshots, edits of them, and reconciling.
+#![tactic(auto)]
+
+mod kind;
+
+pub use kind::Kind;
