@@ -1,0 +1,5 @@
+pub mod Equal
+pub mod Runs
+pub mod ItemEdits
+pub mod EntryEdits
+pub mod Between
