@@ -3,3 +3,4 @@ pub mod Runs
 pub mod ItemEdits
 pub mod EntryEdits
 pub mod Between
+pub mod Bare
