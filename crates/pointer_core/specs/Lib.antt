@@ -1,2 +1,5 @@
+pub mod Index
 pub mod Path
+pub mod Reading
 pub mod Rule
+pub mod Spelling
