@@ -4,3 +4,6 @@ pub mod ItemEdits
 pub mod EntryEdits
 pub mod Between
 pub mod Bare
+pub mod Reconciling
+pub mod TakenBack
+pub mod Applying

@@ -6,3 +6,5 @@ pub mod Rules
 pub mod Template
 pub mod Matching
 pub mod Reconciling
+pub mod Application
+pub mod Laws

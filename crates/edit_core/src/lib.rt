@@ -2,5 +2,7 @@
 #![tactic(auto)]
 
 mod kind;
+mod laws;
 
 pub use kind::Kind;
+pub use laws::{edits_are_taken_back, edits_lead_across, edits_lead_to_one, reconciling_leads_to_the_new};

@@ -1,0 +1,36 @@
+-- What holds of edits and of reconciling.
+use Rattle.std.specs.Prelude.{◌≡◌, ℕ, List}
+use Rattle.snap_core.specs.Value.{Value}
+use Rattle.edit_core.specs.Labelled.{Labelled, bare}
+use Rattle.edit_core.specs.Edit.{Edit, Leads, Run, inverse_of}
+use Rattle.edit_core.specs.Application.{Fits, edited, FitInTurn, edited_by, back}
+use Rattle.edit_core.specs.Between.{edits_between}
+use Rattle.edit_core.specs.Rules.{Rules, Matching}
+use Rattle.edit_core.specs.Reconciling.{Written, reconciled}
+
+-- an edit that leads from a labelled snapshot leads to one alone, which is what the edit makes of it
+pub record EditsLeadToOne : Type 0 where
+  pub fits : (x y : Labelled) (e : Edit) → Leads x e y → Fits e x × (edited e x ≡ y)
+  pub in_turn : (x y : Labelled) (es : List Edit) → Run x es y → FitInTurn es x × (edited_by es x ≡ y)
+
+-- where an edit leads from one labelled snapshot to another, its inverse leads back, with all labels; likewise
+-- the inverses of many, last first
+pub record EditsAreTakenBack : Type 0 where
+  pub one : (x y : Labelled) (e : Edit) → Leads x e y → Leads y (inverse_of e) x
+  pub many : (x y : Labelled) (es : List Edit) → Run x es y → Run y (back es) x
+
+-- the edits between two labelled snapshots, whichever they are, lead from the one to the other
+abbrev pub EditsLeadAcross : Type 0
+EditsLeadAcross = (old new : Labelled) → Run old (edits_between old new) new
+
+-- What reconciling leaves of a value that is set, whatever the types say and however items are matched.
+pub record LeadsToTheNew (old : Labelled) (new : Value) (w : Written) : Type 0 where
+  -- the edits lead from the old labelled value to the written one
+  pub leads : Run old w.edits w.value
+  -- which is, without its labels, the value that is set
+  pub given : bare w.value ≡ new
+
+abbrev pub ReconcilingLeadsToTheNew : Type 0
+ReconcilingLeadsToTheNew =
+    (r : Rules) (matching : Matching) (next t : ℕ) (old : Labelled) (new : Value)
+    → LeadsToTheNew old new (reconciled r matching next t old new)

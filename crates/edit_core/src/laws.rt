@@ -1,0 +1,21 @@
+ghost use Rattle.edit_core.specs.Laws.{EditsLeadToOne, EditsAreTakenBack, EditsLeadAcross, ReconcilingLeadsToTheNew};
+
+/// An edit that leads from a labelled snapshot leads to one alone.
+pub fn edits_lead_to_one()
+    ensures { EditsLeadToOne }
+{}
+
+/// The inverse of an edit leads back to the very labels.
+pub fn edits_are_taken_back()
+    ensures { EditsAreTakenBack }
+{}
+
+/// The edits between two labelled snapshots lead from the one to the other.
+pub fn edits_lead_across()
+    ensures { EditsLeadAcross }
+{}
+
+/// However items are matched, reconciling leads to the new value.
+pub fn reconciling_leads_to_the_new()
+    ensures { ReconcilingLeadsToTheNew }
+{}
