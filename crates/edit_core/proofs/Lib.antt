@@ -1,4 +1,5 @@
 pub mod Equal
+pub mod Leading
 pub mod Runs
 pub mod ItemEdits
 pub mod EntryEdits

@@ -4,7 +4,7 @@ use Rattle.std.proofs.lemmas.List.{reverse-append}
 use Rattle.edit_core.specs.Labelled.{Labelled}
 use Rattle.edit_core.specs.Edit.{Edit, Operation, add, remove, replace, whole, within, Leads, replaced, one_item, one_entry, in_item, in_entry, Run, no_edits, one_edit, inverse_operation, inverse_change, inverse_of}
 use Rattle.edit_core.specs.Application.{back}
-use Rattle.edit_core.proofs.Runs.{joined, one}
+use Rattle.edit_core.proofs.Runs.{joined}
 
 pub back-one : (x y : Labelled) (e : Edit) → Leads x e y → Leads y (inverse_of e) x
 back-one x y e (replaced old new) = replaced new old
@@ -22,4 +22,4 @@ back-all x y es (no_edits w) = no_edits w
 back-all x y es (one_edit a b c e rest lead run) =
     let P : List Edit → Type 0 = λ fs. Run c fs a in
     subst P (sym (reverse-append (inverse_of e ∷ []) (map inverse_of rest)))
-    (joined c b a (back rest) (inverse_of e ∷ []) (back-all b c rest run) (one b a (inverse_of e) (back-one a b e lead)))
+    (joined c b a (back rest) (inverse_of e ∷ []) (back-all b c rest run) (one_edit b a a (inverse_of e) [] (back-one a b e lead) (no_edits a)))
