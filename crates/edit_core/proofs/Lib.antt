@@ -8,3 +8,6 @@ pub mod Bare
 pub mod Reconciling
 pub mod TakenBack
 pub mod Applying
+pub mod Ascending
+pub mod Places
+pub mod Patches

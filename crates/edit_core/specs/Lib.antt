@@ -8,3 +8,5 @@ pub mod Matching
 pub mod Reconciling
 pub mod Application
 pub mod Laws
+pub mod Plain
+pub mod Around
