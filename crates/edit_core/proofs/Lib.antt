@@ -11,3 +11,5 @@ pub mod Applying
 pub mod Ascending
 pub mod Places
 pub mod Patches
+pub mod Within
+pub mod Patching

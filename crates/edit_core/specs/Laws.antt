@@ -1,10 +1,13 @@
 -- What holds of edits and of reconciling.
-use Rattle.std.specs.Prelude.{◌≡◌, ℕ, List}
-use Rattle.snap_core.specs.Value.{Value}
+use Rattle.std.specs.Prelude.{◌≡◌, ℕ, List, [], ◌∷◌, map, IsTrue}
+use Rattle.snap_core.specs.Value.{Value, IsOrdered}
+use Rattle.patch_core.specs.Fits.{LeadsTo}
 use Rattle.edit_core.specs.Labelled.{Labelled, bare}
 use Rattle.edit_core.specs.Edit.{Edit, Leads, Run, inverse_of}
 use Rattle.edit_core.specs.Application.{Fits, edited, FitInTurn, edited_by, back}
-use Rattle.edit_core.specs.Between.{edits_between}
+use Rattle.edit_core.specs.Around.{Around, standing_in, seen_from}
+use Rattle.edit_core.specs.Between.{stays, edits_between}
+use Rattle.edit_core.specs.Plain.{IsShort, patch_of}
 use Rattle.edit_core.specs.Rules.{Rules, Matching}
 use Rattle.edit_core.specs.Reconciling.{Written, reconciled}
 
@@ -34,3 +37,22 @@ abbrev pub ReconcilingLeadsToTheNew : Type 0
 ReconcilingLeadsToTheNew =
     (r : Rules) (matching : Matching) (next t : ℕ) (old : Labelled) (new : Value)
     → LeadsToTheNew old new (reconciled r matching next t old new)
+
+-- each place of a value has a path: keys ascend, and indices are tokens
+pub record HasPaths (v : Value) : Type 0 where
+  pub ordered : IsOrdered v
+  pub short : IsShort v
+
+-- Without labels: from a value that holds the old one at a place, each patch fits in turn, and after them the new
+-- value stands at the place, and all around it is as before.
+pub record ReconcilingIsPatching (r : Rules) (matching : Matching) (next t : ℕ) (old : Labelled) (new : Value) : Type 0 where
+  pub inside : (a : Around) (around : List Around) → HasPaths (bare (standing_in (a ∷ around) old)) → HasPaths new
+      → LeadsTo (map (λ e. patch_of (seen_from (a ∷ around) e)) (reconciled r matching next t old new).edits)
+          (bare (standing_in (a ∷ around) old)) (bare (standing_in (a ∷ around) (reconciled r matching next t old new).value))
+  -- at the root, where the node stays
+  pub at_root : HasPaths (bare old) → HasPaths new → IsTrue (stays old (reconciled r matching next t old new).value)
+      → LeadsTo (map patch_of (reconciled r matching next t old new).edits) (bare old) new
+
+abbrev pub PatchesLeadToTheNew : Type 0
+PatchesLeadToTheNew =
+    (r : Rules) (matching : Matching) (next t : ℕ) (old : Labelled) (new : Value) → ReconcilingIsPatching r matching next t old new

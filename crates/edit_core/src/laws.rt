@@ -1,4 +1,4 @@
-ghost use Rattle.edit_core.specs.Laws.{EditsLeadToOne, EditsAreTakenBack, EditsLeadAcross, ReconcilingLeadsToTheNew};
+ghost use Rattle.edit_core.specs.Laws.{EditsLeadToOne, EditsAreTakenBack, EditsLeadAcross, ReconcilingLeadsToTheNew, PatchesLeadToTheNew};
 
 /// An edit that leads from a labelled snapshot leads to one alone.
 pub fn edits_lead_to_one()
@@ -18,4 +18,9 @@ pub fn edits_lead_across()
 /// However items are matched, reconciling leads to the new value.
 pub fn reconciling_leads_to_the_new()
     ensures { ReconcilingLeadsToTheNew }
+{}
+
+/// The patches of reconciling fit in turn, and lead to the new value at its place.
+pub fn patches_lead_to_the_new()
+    ensures { PatchesLeadToTheNew }
 {}
