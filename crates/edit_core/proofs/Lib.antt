@@ -13,3 +13,4 @@ pub mod Places
 pub mod Patches
 pub mod Within
 pub mod Patching
+pub mod Examples
