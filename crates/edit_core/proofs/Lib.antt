@@ -14,3 +14,6 @@ pub mod Patches
 pub mod Within
 pub mod Patching
 pub mod Examples
+pub mod Drawing
+pub mod Keeping
+pub mod Numbering

@@ -9,6 +9,8 @@ use Rattle.edit_core.specs.Around.{Around, standing_in, seen_from}
 use Rattle.edit_core.specs.Between.{stays, edits_between}
 use Rattle.edit_core.specs.Plain.{IsShort, patch_of}
 use Rattle.edit_core.specs.Rules.{Rules, Matching}
+use Rattle.edit_core.specs.Matching.{first_matching}
+use Rattle.edit_core.specs.Numbers.{AreNumbered, MatchesOnce, HasNumbers}
 use Rattle.edit_core.specs.Reconciling.{Written, reconciled}
 
 -- an edit that leads from a labelled snapshot leads to one alone, which is what the edit makes of it
@@ -56,3 +58,18 @@ pub record ReconcilingIsPatching (r : Rules) (matching : Matching) (next t : ℕ
 abbrev pub PatchesLeadToTheNew : Type 0
 PatchesLeadToTheNew =
     (r : Rules) (matching : Matching) (next t : ℕ) (old : Labelled) (new : Value) → ReconcilingIsPatching r matching next t old new
+
+-- a written value has the numbers that it is to have, and no two of its nodes have one number
+pub record IsWellNumbered (next : ℕ) (old : Labelled) (w : Written) : Type 0 where
+  pub numbers : HasNumbers next old w
+  pub again : AreNumbered w.next w.value
+
+abbrev pub NumbersDiffer : Type 0
+NumbersDiffer =
+    (r : Rules) (matching : Matching) (next t : ℕ) (old : Labelled) (new : Value)
+    → MatchesOnce matching → IsOrdered new → AreNumbered next old
+    → IsWellNumbered next old (reconciled r matching next t old new)
+
+-- the first new item that is the same is matched with one old item alone
+abbrev pub FirstMatchesOnce : Type 0
+FirstMatchesOnce = (r : Rules) → MatchesOnce (first_matching r)

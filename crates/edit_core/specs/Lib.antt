@@ -10,3 +10,4 @@ pub mod Application
 pub mod Laws
 pub mod Plain
 pub mod Around
+pub mod Numbers

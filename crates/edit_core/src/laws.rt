@@ -1,4 +1,4 @@
-ghost use Rattle.edit_core.specs.Laws.{EditsLeadToOne, EditsAreTakenBack, EditsLeadAcross, ReconcilingLeadsToTheNew, PatchesLeadToTheNew};
+ghost use Rattle.edit_core.specs.Laws.{EditsLeadToOne, EditsAreTakenBack, EditsLeadAcross, ReconcilingLeadsToTheNew, PatchesLeadToTheNew, NumbersDiffer, FirstMatchesOnce};
 
 /// An edit that leads from a labelled snapshot leads to one alone.
 pub fn edits_lead_to_one()
@@ -23,4 +23,14 @@ pub fn reconciling_leads_to_the_new()
 /// The patches of reconciling fit in turn, and lead to the new value at its place.
 pub fn patches_lead_to_the_new()
     ensures { PatchesLeadToTheNew }
+{}
+
+/// Where each old item is matched at most once, the numbers of all nodes differ again.
+pub fn numbers_differ()
+    ensures { NumbersDiffer }
+{}
+
+/// The matching by the first item that is the same matches each old item at most once.
+pub fn first_matches_once()
+    ensures { FirstMatchesOnce }
 {}
