@@ -69,9 +69,10 @@ set-first n (e ∷ es) ns h g = go (key_cmp e.0 n.0) refl (set-first n es ns h.1
   go Less less rest =
       let parts = after-parts e.0 n.0 es h.0 in
       let below : List Entry = entries_of (parted n.0 es).below in
-      let above : List Entry = entries_of (parted n.0 es).above in
-      ((after-joined e.0 below (n ∷ above) parts.0 (less, parts.1), rest.0),
-        (after-joined e.0 (below ++ n ∷ []) ns (after-joined e.0 below (n ∷ []) parts.0 (less, tt)) (after-further e.0 n.0 ns less g.0), rest.1))
+      let above : List Entry = entries_of (parted n.0 es).above in (
+        (after-joined e.0 below (n ∷ above) parts.0 (less, parts.1), rest.0),
+        (after-joined e.0 (below ++ n ∷ []) ns (after-joined e.0 below (n ∷ []) parts.0 (less, tt)) (after-further e.0 n.0 ns less g.0), rest.1),
+      )
   go Equal same rest = let P : List ℕ → Type 0 = λ k. AllAfter k (entries_of es) in ((subst P (keys-equal e.0 n.0 same) h.0, h.1), g)
   go Greater greater rest =
       let less : key_cmp n.0 e.0 ≡ Less = nat_list_cmp_total.antisymm n.0 e.0 ∙ ap ordering_reverse greater in
@@ -85,9 +86,10 @@ ascend-set (d ∷ done) n olds ns h g =
     let above : List Entry = entries_of (parted n.0 olds).above in
     let parts = after-parts d.0 n.0 olds (after-rest d.0 done (entries_of olds) h.0) in
     let front : AllAfter d.0 (done ++ below) = after-joined d.0 done below (after-front d.0 done (entries_of olds) h.0) parts.0 in
-    let new : AllAfter d.0 (n ∷ ns) = after-rest d.0 done (n ∷ ns) g.0 in
-    ((after-joined d.0 (done ++ below) (n ∷ above) front (new.0, parts.1), rest.0),
-      (after-joined d.0 ((done ++ below) ++ n ∷ []) ns (after-joined d.0 (done ++ below) (n ∷ []) front (new.0, tt)) new.1, rest.1))
+    let new : AllAfter d.0 (n ∷ ns) = after-rest d.0 done (n ∷ ns) g.0 in (
+      (after-joined d.0 (done ++ below) (n ∷ above) front (new.0, parts.1), rest.0),
+      (after-joined d.0 ((done ++ below) ++ n ∷ []) ns (after-joined d.0 (done ++ below) (n ∷ []) front (new.0, tt)) new.1, rest.1),
+    )
 
 -- each array has fewer than 2 to the power of 32 items, and the keys of each record ascend
 abbrev pub spelled : Conditions

@@ -62,8 +62,8 @@ module _ (C : Conditions) where
         let Counted : List Labelled → Type 0 = λ xs. C.index (length xs) in
         subst Start (ap branches (values-olds bs) ∙ branches-items bs)
         (subst Named (label-is l k same)
-            (subst End (branches-items cs)
-                (item_edits-run C l (olds_in bs) (items_in cs) (subst Counted (sym (values-olds bs)) i) fine.0 good (fine-items cs fine.1))))
+        (subst End (branches-items cs)
+        (item_edits-run C l (olds_in bs) (items_in cs) (subst Counted (sym (values-olds bs)) i) fine.0 good (fine-items cs fine.1))))
     go false other = whole-run (many l bs) (many k cs)
 
   record-run : (l : Label) (es : Entries Label) (new : Labelled) → C.keys (entries_in es) → AreGoodEntries C (old_entries_in es) → FineIn C new
@@ -79,8 +79,8 @@ module _ (C : Conditions) where
         let Named : Label → Type 0 = λ m. RunIn C (keyed l (entries (entries_of (old_entries_in es)))) edits (keyed m fs) in
         subst Start (ap entries (entries-olds es) ∙ entries-in es)
         (subst Named (label-is l k same)
-            (subst End (entries-in fs)
-                (entry_edits-run C l (old_entries_in es) (entries_in fs) (subst C.keys (sym (entries-olds es)) p) fine.0 good (fine-entries fs fine.1))))
+        (subst End (entries-in fs)
+        (entry_edits-run C l (old_entries_in es) (entries_in fs) (subst C.keys (sym (entries-olds es)) p) fine.0 good (fine-entries fs fine.1))))
     go false other = whole-run (keyed l es) (keyed k fs)
 
   mutual

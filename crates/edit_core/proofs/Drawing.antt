@@ -53,15 +53,15 @@ among-above n next (suc count) h =
 pub among-within : (n next count : ℕ) → next ≤ n → n < next + count → among n next count ≡ 1
 among-within n next zero h g = absurd (omega arith)
 among-within n next (suc count) h g = elim (eqb_tells next n) [
-    | inl here ↦
+  | inl here ↦
       let e : one_where (next == n) ≡ 1 = ap one_where here.0 in
       let rest : among n (suc next) count ≡ 0 = among-below n (suc next) count (omega (arith, here.1)) in
       omega arith
-    | inr there ↦
+  | inr there ↦
       let e : one_where (next == n) ≡ 0 = ap one_where there.0 in
       let rest : among n (suc next) count ≡ 1 = among-within n (suc next) count (omega (arith, there.1)) (omega arith) in
       omega arith
-  ]
+]
 
 pub among-joined : (n next c d : ℕ) → among n next (c + d) ≡ among n next c + among n (next + c) d
 among-joined n next zero d =

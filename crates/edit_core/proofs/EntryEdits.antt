@@ -67,26 +67,26 @@ module _ (C : Conditions) where
   settings-run l done olds [] p q good fine = no_edits _
   settings-run l done olds (n ∷ ns) p q good fine =
       go (parted n.0 olds) (parted-is n.0 olds good) (C.set done n olds ns p q) (λ d o h k g. settings-run l d o ns h k g fine.1) where
-    go : (parts : Parting) → IsParting n.0 olds parts
-        → C.keys ((done ++ entries_of parts.below) ++ n ∷ entries_of parts.above) × C.keys (((done ++ entries_of parts.below) ++ n ∷ []) ++ ns)
-        → ((done : List Entry) (olds : List (List ℕ × Old)) → C.keys (done ++ entries_of olds) → C.keys (done ++ ns) → AreGoodEntries olds
+        go : (parts : Parting) → IsParting n.0 olds parts
+            → C.keys ((done ++ entries_of parts.below) ++ n ∷ entries_of parts.above) × C.keys (((done ++ entries_of parts.below) ++ n ∷ []) ++ ns)
+            → ((done : List Entry) (olds : List (List ℕ × Old)) → C.keys (done ++ entries_of olds) → C.keys (done ++ ns) → AreGoodEntries olds
             → RunIn C (keyed l (entries (done ++ entries_of olds))) (settings done olds ns) (keyed l (entries (done ++ united olds ns))))
-        → RunIn C (keyed l (entries (done ++ entries_of olds)))
+            → RunIn C (keyed l (entries (done ++ entries_of olds)))
             (edits_at (done ++ entries_of parts.below) n.0 parts.held n.1 (entries_of parts.above) ++ settings ((done ++ entries_of parts.below) ++ n ∷ []) parts.above ns)
             (keyed l (entries (done ++ (entries_of parts.below ++ n ∷ united parts.above ns))))
-    go parts is kept further =
-        let before : List Entry = done ++ entries_of parts.below in
-        let rest : List Edit = settings (before ++ n ∷ []) parts.above ns in
-        joined_in C _ _ _ (edits_at before n.0 parts.held n.1 (entries_of parts.above)) rest
-        (starts l (done ++ entries_of olds) (before ++ (held_entry n.0 parts.held ++ entries_of parts.above)) _ _
+        go parts is kept further =
+            let before : List Entry = done ++ entries_of parts.below in
+            let rest : List Edit = settings (before ++ n ∷ []) parts.above ns in
+            joined_in C _ _ _ (edits_at before n.0 parts.held n.1 (entries_of parts.above)) rest
+            (starts l (done ++ entries_of olds) (before ++ (held_entry n.0 parts.held ++ entries_of parts.above)) _ _
             (ap (λ xs. done ++ xs) is.all ∙ sym (append_assoc done (entries_of parts.below) (held_entry n.0 parts.held ++ entries_of parts.above)))
             (edits_at-run l before (entries_of parts.above) n.0 parts.held n.1 kept.0 is.held fine.0))
-        (ends l (before ++ n ∷ united parts.above ns) (done ++ (entries_of parts.below ++ n ∷ united parts.above ns)) rest _
+            (ends l (before ++ n ∷ united parts.above ns) (done ++ (entries_of parts.below ++ n ∷ united parts.above ns)) rest _
             (append_assoc done (entries_of parts.below) (n ∷ united parts.above ns))
             (shifted_entry C l before n (entries_of parts.above) (united parts.above ns) rest
-                (further (before ++ n ∷ []) parts.above
-                    (keys-told (before ++ n ∷ entries_of parts.above) ((before ++ n ∷ []) ++ entries_of parts.above) (sym (append_assoc before (n ∷ []) (entries_of parts.above))) kept.0)
-                    kept.1 is.above)))
+            (further (before ++ n ∷ []) parts.above
+            (keys-told (before ++ n ∷ entries_of parts.above) ((before ++ n ∷ []) ++ entries_of parts.above) (sym (append_assoc before (n ∷ []) (entries_of parts.above))) kept.0)
+            kept.1 is.above)))
 
   pub keys-united : (done : List Entry) (olds : List (List ℕ × Old)) (news : List Entry) → C.keys (done ++ entries_of olds) → C.keys (done ++ news) → C.keys (done ++ united olds news)
   keys-united done olds [] p q = p
@@ -95,9 +95,9 @@ module _ (C : Conditions) where
       let before : List Entry = done ++ entries_of parts.below in
       let kept = C.set done n olds ns p q in
       let further : C.keys ((before ++ n ∷ []) ++ united parts.above ns) =
-          keys-united (before ++ n ∷ []) parts.above ns
-          (keys-told (before ++ n ∷ entries_of parts.above) ((before ++ n ∷ []) ++ entries_of parts.above) (sym (append_assoc before (n ∷ []) (entries_of parts.above))) kept.0)
-          kept.1 in
+      keys-united (before ++ n ∷ []) parts.above ns
+      (keys-told (before ++ n ∷ entries_of parts.above) ((before ++ n ∷ []) ++ entries_of parts.above) (sym (append_assoc before (n ∷ []) (entries_of parts.above))) kept.0)
+      kept.1 in
       keys-told ((before ++ n ∷ []) ++ united parts.above ns) (done ++ (entries_of parts.below ++ n ∷ united parts.above ns))
       (append_assoc before (n ∷ []) (united parts.above ns) ∙ append_assoc done (entries_of parts.below) (n ∷ united parts.above ns)) further
 
@@ -118,8 +118,8 @@ module _ (C : Conditions) where
       joined_in C _ _ _ (cuts done (entries_of parts.below) (n ∷ rest)) (cleared (done ++ n ∷ []) parts.above ns)
       (cuts-run l done (entries_of parts.below) (n ∷ rest) p)
       (shifted_entry C l done n rest ns (cleared (done ++ n ∷ []) parts.above ns)
-          (cleared-run l (done ++ n ∷ []) parts.above ns
-              (keys-told (done ++ n ∷ rest) ((done ++ n ∷ []) ++ rest) (sym (append_assoc done (n ∷ []) rest)) (C.fewer_keys done (entries_of parts.below) (n ∷ rest) p))))
+      (cleared-run l (done ++ n ∷ []) parts.above ns
+      (keys-told (done ++ n ∷ rest) ((done ++ n ∷ []) ++ rest) (sym (append_assoc done (n ∷ []) rest)) (C.fewer_keys done (entries_of parts.below) (n ∷ rest) p))))
 
   pub entry_edits-run : (l : Label) (olds : List (List ℕ × Old)) (news : List Entry) → C.keys (entries_of olds) → C.keys news → AreGoodEntries olds → EachFine C news
       → RunIn C (keyed l (entries (entries_of olds))) (entry_edits olds news) (keyed l (entries news))

@@ -36,7 +36,7 @@ module _ (C : Conditions) where
       joined_in C _ _ _ (map (moved_to_item done (values os)) (o.edits n)) (one_by_one (done ++ n ∷ []) os ns)
       (lifted C l done (values os) o.value n (o.edits n) (index-done done o.value (values os) i) (good.0 n fine.0))
       (shifted C l done n (values os) ns (one_by_one (done ++ n ∷ []) os ns)
-          (one_by_one-runs l (done ++ n ∷ []) os ns (index-next done o.value n (values os) i) good.1 fine.1 (and-right (stays o.value n) (all_stay os ns) same)))
+      (one_by_one-runs l (done ++ n ∷ []) os ns (index-next done o.value n (values os) i) good.1 fine.1 (and-right (stays o.value n) (all_stay os ns) same)))
 
   abbrev IfFine : Option Labelled → Type 0
   IfFine (Some n) = FineIn C n
@@ -56,9 +56,9 @@ module _ (C : Conditions) where
   in_place-runs l done (o ∷ os) news i good fine =
       joined_in C _ _ _ (map (moved_to_item done (values os)) (edits_to o (match_of o news))) (edits_in_place (done ++ becomes o news ∷ []) os news)
       (lifted C l done (values os) o.value (becomes o news) (edits_to o (match_of o news)) (index-done done o.value (values os) i)
-          (edits_to-runs o (match_of o news) good.0 (find-fine (stays o.value) news fine)))
+      (edits_to-runs o (match_of o news) good.0 (find-fine (stays o.value) news fine)))
       (shifted C l done (becomes o news) (values os) (map (λ o. becomes o news) os) (edits_in_place (done ++ becomes o news ∷ []) os news)
-          (in_place-runs l (done ++ becomes o news ∷ []) os news (index-next done o.value (becomes o news) (values os) i) good.1 fine))
+      (in_place-runs l (done ++ becomes o news ∷ []) os news (index-next done o.value (becomes o news) (values os) i) good.1 fine))
 
   pub removals-run : (l : Label) (before xs : List Labelled) → C.index (length (before ++ xs)) → RunIn C (many l (branches (before ++ xs))) (removals before xs) (many l (branches (before ++ [])))
   removals-run l before [] i = no_edits _
@@ -83,8 +83,8 @@ module _ (C : Conditions) where
       joined_in C _ _ _ (edits_in_place [] olds news) (removals [] (map (λ o. becomes o news) olds) ++ additions [] news)
       (in_place-runs l [] olds news i good fine)
       (joined_in C _ _ _ (removals [] (map (λ o. becomes o news) olds)) (additions [] news)
-          (removals-run l [] (map (λ o. becomes o news) olds) (C.fewer _ (length (values olds)) (omega (arith, length-becomes olds news)) i))
-          (additions-run l [] news j))
+      (removals-run l [] (map (λ o. becomes o news) olds) (C.fewer _ (length (values olds)) (omega (arith, length-becomes olds news)) i))
+      (additions-run l [] news j))
 
   pub item_edits-run : (l : Label) (olds : List Old) (news : List Labelled) → C.index (length (values olds)) → C.index (length news) → AreGood olds → AllFine C news
       → RunIn C (many l (branches (values olds))) (item_edits olds news) (many l (branches news))

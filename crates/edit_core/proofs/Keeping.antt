@@ -135,7 +135,7 @@ module _ (r : Rules) (matching : Matching) where
   fields-without no_members kind k olds h = refl
   fields-without (member j v ms) kind k olds h =
       let here : template r matching (r.type_under kind j) (entry_at j (without k olds)) v ≡ template r matching (r.type_under kind j) (entry_at j olds) v =
-          ap (λ old. template r matching (r.type_under kind j) old v) (other-found j k olds h.0) in
+      ap (λ old. template r matching (r.type_under kind j) old v) (other-found j k olds h.0) in
       let rest : field_templates r matching ms kind (without k olds) ≡ field_templates r matching ms kind olds = fields-without ms kind k olds h.1 in
       cc
 

@@ -45,19 +45,19 @@ pub data LeadsIn (C : Conditions) : Labelled → Edit → Labelled → Type 0 wh
   replaced : (old new : Labelled) → LeadsIn C old (whole old new) new
   one_item : (label : Label) (before after : List Labelled) (op : Operation) → C.index (length before)
       → LeadsIn C (many label (branches (before ++ (old_in op ++ after)))) (within [] (at_item before op after))
-          (many label (branches (before ++ (new_in op ++ after))))
+      (many label (branches (before ++ (new_in op ++ after))))
   one_entry : (label : Label) (before after : List Entry) (key : List ℕ) (op : Operation)
       → C.keys (before ++ (under key (old_in op) ++ after)) → C.keys (before ++ (under key (new_in op) ++ after))
       → LeadsIn C (keyed label (entries (before ++ (under key (old_in op) ++ after)))) (within [] (at_entry before key op after))
-          (keyed label (entries (before ++ (under key (new_in op) ++ after))))
+      (keyed label (entries (before ++ (under key (new_in op) ++ after))))
   in_item : (label : Label) (before after : List Labelled) (x y : Labelled) (way : List Step) (change : Change) → C.index (length before)
       → LeadsIn C x (within way change) y
       → LeadsIn C (many label (branches (before ++ x ∷ after))) (within (item (length before) ∷ way) change)
-          (many label (branches (before ++ y ∷ after)))
+      (many label (branches (before ++ y ∷ after)))
   in_entry : (label : Label) (before after : List Entry) (key : List ℕ) (x y : Labelled) (way : List Step) (change : Change) → C.keys (before ++ (key, x) ∷ after)
       → LeadsIn C x (within way change) y
       → LeadsIn C (keyed label (entries (before ++ (key, x) ∷ after))) (within (edit.entry (length before) key ∷ way) change)
-          (keyed label (entries (before ++ (key, y) ∷ after)))
+      (keyed label (entries (before ++ (key, y) ∷ after)))
 
 pub data RunIn (C : Conditions) : Labelled → List Edit → Labelled → Type 0 where
   no_edits : (x : Labelled) → RunIn C x [] x

@@ -27,9 +27,9 @@ has-numbers r matching next t old new once ordered numbered =
 pub numbered-again : (next : ℕ) (old : Labelled) (w : Written) → AreNumbered next old → HasNumbers next old w → AreNumbered w.next w.value
 numbered-again next old w numbered has = record {
   differ = λ n. elim (cases_lt n next) [
-      | inl low ↦ omega (arith, has.kept n low, numbered.differ n)
-      | inr high ↦ elim (cases_lt n w.next) [ inl within ↦ omega (arith, has.drawn n high within) | inr above ↦ omega (arith, has.none n above) ]
-    ];
+    | inl low ↦ omega (arith, has.kept n low, numbered.differ n)
+    | inr high ↦ elim (cases_lt n w.next) [ inl within ↦ omega (arith, has.drawn n high within) | inr above ↦ omega (arith, has.none n above) ]
+  ];
   below = has.none;
 }
 

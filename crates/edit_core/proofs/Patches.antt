@@ -50,21 +50,21 @@ at-item before after (add new) i =
     let is : step_of (decimal (length before)) (list tt (plain_items (before ++ after))) ≡ Some (at_index (length before)) = ap (option_map at_index) (index_of_decimal (length before) i) in
     record {
       fits = (at_index (length before), is, item-room before after);
-      leads = edited-add (decimal (length before)) (at_index (length before)) (bare new) (list tt (plain_items (before ++ after))) is (item-room before after) ∙ ap (λ ps. Ok (list tt ps)) (item-added before after new)
+      leads = edited-add (decimal (length before)) (at_index (length before)) (bare new) (list tt (plain_items (before ++ after))) is (item-room before after) ∙ ap (λ ps. Ok (list tt ps)) (item-added before after new);
     }
 at-item before after (remove old) i =
     let s : Value = list tt (plain_items (before ++ old ∷ after)) in
     let is : step_of (decimal (length before)) s ≡ Some (at_index (length before)) = ap (option_map at_index) (index_of_decimal (length before) i) in
     record {
       fits = part_under-at (decimal (length before)) (at_index (length before)) s (bare old) is (item-stands before after old);
-      leads = edited-remove (decimal (length before)) (at_index (length before)) null s (bare old) is (item-stands before after old) ∙ ap (λ ps. Ok (list tt ps)) (item-removed before after old)
+      leads = edited-remove (decimal (length before)) (at_index (length before)) null s (bare old) is (item-stands before after old) ∙ ap (λ ps. Ok (list tt ps)) (item-removed before after old);
     }
 at-item before after (replace old new) i =
     let s : Value = list tt (plain_items (before ++ old ∷ after)) in
     let is : step_of (decimal (length before)) s ≡ Some (at_index (length before)) = ap (option_map at_index) (index_of_decimal (length before) i) in
     record {
       fits = part_under-at (decimal (length before)) (at_index (length before)) s (bare old) is (item-stands before after old);
-      leads = edited-replace (decimal (length before)) (at_index (length before)) (bare new) s (bare old) is (item-stands before after old) ∙ ap (λ ps. Ok (list tt ps)) (item-set before after old new)
+      leads = edited-replace (decimal (length before)) (at_index (length before)) (bare new) s (bare old) is (item-stands before after old) ∙ ap (λ ps. Ok (list tt ps)) (item-set before after old new);
     }
 
 at-entry : (before after : List Entry) (key : List ℕ) (op : Operation) → Ascend (before ++ (under key (old_in op) ++ after)) → Ascend (before ++ (under key (new_in op) ++ after))
@@ -72,19 +72,19 @@ at-entry : (before after : List Entry) (key : List ℕ) (op : Operation) → Asc
 at-entry before after key (add new) p q =
     record {
       fits = (at_key key, refl, entry-absent before after key new q);
-      leads = edited-add key (at_key key) (bare new) (dict tt (plain_fields (before ++ after))) refl (entry-absent before after key new q) ∙ ap (λ ms. Ok (dict tt ms)) (entry-added before after key new q)
+      leads = edited-add key (at_key key) (bare new) (dict tt (plain_fields (before ++ after))) refl (entry-absent before after key new q) ∙ ap (λ ms. Ok (dict tt ms)) (entry-added before after key new q);
     }
 at-entry before after key (remove old) p q =
     let s : Value = dict tt (plain_fields (before ++ (key, old) ∷ after)) in
     record {
       fits = part_under-at key (at_key key) s (bare old) refl (entry-stands before after key old p);
-      leads = edited-remove key (at_key key) null s (bare old) refl (entry-stands before after key old p) ∙ ap (λ ms. Ok (dict tt ms)) (entry-removed before after key old p)
+      leads = edited-remove key (at_key key) null s (bare old) refl (entry-stands before after key old p) ∙ ap (λ ms. Ok (dict tt ms)) (entry-removed before after key old p);
     }
 at-entry before after key (replace old new) p q =
     let s : Value = dict tt (plain_fields (before ++ (key, old) ∷ after)) in
     record {
       fits = part_under-at key (at_key key) s (bare old) refl (entry-stands before after key old p);
-      leads = edited-replace key (at_key key) (bare new) s (bare old) refl (entry-stands before after key old p) ∙ ap (λ ms. Ok (dict tt ms)) (entry-set before after key old new p)
+      leads = edited-replace key (at_key key) (bare new) s (bare old) refl (entry-stands before after key old p) ∙ ap (λ ms. Ok (dict tt ms)) (entry-set before after key old new p);
     }
 
 -- one token further in
@@ -92,7 +92,7 @@ deeper : (token next : List ℕ) (rest : Path) (op : Operation) (s c d : Value) 
     → PatchLeads (next ∷ rest) op c d → PatchLeads (token ∷ next ∷ rest) op s (set_child step d s)
 deeper token next rest op s c d step is found inner = record {
   fits = (c, part_under-at token step s c is found, inner.fits);
-  leads = rw (is, found, inner.leads) refl
+  leads = rw (is, found, inner.leads) refl;
 }
 
 -- the same for the path of a change, which is never empty
@@ -118,13 +118,13 @@ patch-leads x y e (in_item l before after v w way change i lead) =
     reaches (decimal (length before) ∷ path_to way change) (operation_in change) s (set_child (at_index (length before)) (bare w) s) (list tt (plain_items (before ++ w ∷ after)))
     (ap (list tt) (item-set before after v w))
     (deeper-path (decimal (length before)) way change s (bare v) (bare w) (at_index (length before)) (ap (option_map at_index) (index_of_decimal (length before) i)) (item-stands before after v)
-        (patch-leads v w (within way change) lead))
+    (patch-leads v w (within way change) lead))
 patch-leads x y e (in_entry l before after key v w way change p lead) =
     let s : Value = dict tt (plain_fields (before ++ (key, v) ∷ after)) in
     reaches (key ∷ path_to way change) (operation_in change) s (set_child (at_key key) (bare w) s) (dict tt (plain_fields (before ++ (key, w) ∷ after)))
     (ap (dict tt) (entry-set before after key v w p))
     (deeper-path key way change s (bare v) (bare w) (at_key key) refl (entry-stands before after key v p)
-        (patch-leads v w (within way change) lead))
+    (patch-leads v w (within way change) lead))
 
 -- as a patch of the public surface
 patch-fits : (path : Path) (op : Operation) (s t : Value) → PatchLeads path op s t → Fits (patch_at path op) s × (applied (patch_at path op) s ≡ Ok t)

@@ -120,7 +120,7 @@ patching r matching next t old new =
           let P : List Patch → Type 0 = λ ps. LeadsTo ps (bare (standing_in (a ∷ around) old)) (bare (standing_in (a ∷ around) w.value)) in
           subst P (map-patches a around w.edits)
           (patches-lead (standing_in (a ∷ around) old) (standing_in (a ∷ around) w.value) (map (seen_from (a ∷ around)) w.edits) (within-outside a around w.edits)
-              (seen-run spelled (a ∷ around) old w.value w.edits fine (between-runs_in spelled old w.value (fine-inside spelled (a ∷ around) old fine) (fine-new after))));
+          (seen-run spelled (a ∷ around) old w.value w.edits fine (between-runs_in spelled old w.value (fine-inside spelled (a ∷ around) old fine) (fine-new after))));
       at_root = λ before after same.
           let P : Value → Type 0 = λ v. LeadsTo (map patch_of w.edits) (bare old) v in
           subst P given

@@ -50,7 +50,7 @@ pub record HasPaths (v : Value) : Type 0 where
 pub record ReconcilingIsPatching (r : Rules) (matching : Matching) (next t : ℕ) (old : Labelled) (new : Value) : Type 0 where
   pub inside : (a : Around) (around : List Around) → HasPaths (bare (standing_in (a ∷ around) old)) → HasPaths new
       → LeadsTo (map (λ e. patch_of (seen_from (a ∷ around) e)) (reconciled r matching next t old new).edits)
-          (bare (standing_in (a ∷ around) old)) (bare (standing_in (a ∷ around) (reconciled r matching next t old new).value))
+      (bare (standing_in (a ∷ around) old)) (bare (standing_in (a ∷ around) (reconciled r matching next t old new).value))
   -- at the root, where the node stays
   pub at_root : HasPaths (bare old) → HasPaths new → IsTrue (stays old (reconciled r matching next t old new).value)
       → LeadsTo (map patch_of (reconciled r matching next t old new).edits) (bare old) new

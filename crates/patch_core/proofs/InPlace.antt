@@ -35,9 +35,9 @@ set_kept (y ∷ ys) (suc at) x here = ap (λ zs. y ∷ zs) (set_kept ys at x her
 
 past_bound : (i bound : ℕ) → (if nat_lt i bound then Some i else None) ≡ None → bound ≤ i
 past_bound i bound e = elim (cases_lt i bound) [
-    | inl below ↦ let test : nat_lt i bound ≡ true = lt-ltb i bound below in let some : Some i ≡ None = rw test at e in cc
-    | inr above ↦ above
-  ]
+  | inl below ↦ let test : nat_lt i bound ≡ true = lt-ltb i bound below in let some : Some i ≡ None = rw test at e in cc
+  | inr above ↦ above
+]
 
 -- items
 
@@ -79,8 +79,8 @@ no_item token vs change none =
     elim (index_of token) as (λ o. option_and_then (λ (k : ℕ). if nat_lt k (length vs) then Some k else None) o ≡ None → inside (option_map at_index o) change (list tt (items_view vs)) ≡ Err error.Path) [
       | None ↦ λ e. refl
       | Some i ↦ λ e.
-        let past : item_at i (items_view vs) ≡ None = item_at-items_view i vs ∙ ap (option_map view) (slice_get_past vs i (past_bound i (length vs) e)) in
-        rw past refl
+          let past : item_at i (items_view vs) ≡ None = item_at-items_view i vs ∙ ap (option_map view) (slice_get_past vs i (past_bound i (length vs) e)) in
+          rw past refl
     ] none
 
 pub item_kept : (vs : List Snap) (at : ℕ) (v new : Snap) (r : Result (Unit {0}) PatchError) → slice_get vs at ≡ Some v → OnErr r (new ≡ v) → OnErr r (slice_set vs at new ≡ vs)

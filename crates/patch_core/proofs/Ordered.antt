@@ -29,15 +29,15 @@ item_ordered Remove i v ps one all = AreOrdered-remove_item i ps all
 
 held_ordered : {A : Type 0} (key : List ℕ) (ms after : TreeFields A) → AreOrderedMembers after → Holds (λ ns. AreOrderedMembers ns) (where_held key ms after)
 held_ordered {A} key ms after all = elim (value_at key ms) as (λ o. Holds (λ (ns : TreeFields A). AreOrderedMembers ns) (if is_some o then Ok after else Err error.Path)) [
-    | None ↦ tt
-    | Some w ↦ all
-  ]
+  | None ↦ tt
+  | Some w ↦ all
+]
 
 items_ordered : {A : Type 0} (op : PatchOp) (token : List ℕ) (v : Tree A) (ps : TreeItems A) → IsOrdered v → AreOrdered ps → Holds (λ qs. AreOrdered qs) (items_after op token v ps)
 items_ordered {A} op token v ps one all = elim (index_for op (count_of ps) token) as (λ o. Holds (λ (qs : TreeItems A). AreOrdered qs) (with_index (λ i. items_changed op i v ps) o)) [
-    | None ↦ tt
-    | Some i ↦ item_ordered op i v ps one all
-  ]
+  | None ↦ tt
+  | Some i ↦ item_ordered op i v ps one all
+]
 
 fields_ordered : {A : Type 0} (op : PatchOp) (key : List ℕ) (v : Tree A) (ms : TreeFields A) → IsOrdered v → AreOrderedMembers ms → Holds (λ ns. AreOrderedMembers ns) (fields_after op key v ms)
 fields_ordered {A} Add key v ms one all =

@@ -40,7 +40,12 @@ fn add_field(alloc: Global, fields: &mut Fields, key: &str, value: &Snap) -> Res
     }
 }
 
-fn replace_field(alloc: Global, fields: &mut Fields, key: &str, value: &Snap) -> Result<(), PatchError>
+fn replace_field(
+    alloc: Global,
+    fields: &mut Fields,
+    key: &str,
+    value: &Snap,
+) -> Result<(), PatchError>
     requires { AreKeyed (fields_view fields.old) }
     ensures outcome { Answers result (where_held key.now (fields_view fields.old) (set_field key.now (view value.now) (fields_view fields.old))) (fields_view fields.new) }
     ensures unchanged { OnErr result (fields.new ≡ fields.old) }

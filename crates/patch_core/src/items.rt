@@ -39,7 +39,12 @@ fn add_item(alloc: Global, items: &mut Items, token: &str, value: &Snap) -> Resu
     }
 }
 
-fn replace_item(alloc: Global, items: &mut Items, token: &str, value: &Snap) -> Result<(), PatchError>
+fn replace_item(
+    alloc: Global,
+    items: &mut Items,
+    token: &str,
+    value: &Snap,
+) -> Result<(), PatchError>
     ensures outcome { Answers result (with_index (λ at. set_item at (view value.now) (items_view items.old)) (index_below (length items.old) token.now)) (items_view items.new) }
     ensures unchanged { OnErr result (items.new ≡ items.old) }
 {
