@@ -99,7 +99,7 @@ nothing_made table defaults loopless all t missing s makes =
     let shape : shape_at table t ≡ Some (Optional missing.of missing.given) = missing.shape in
     let self : named_by table t ≡ t = named_by-at table loopless t (Optional missing.of missing.given) shape in
     let none : absent table defaults t ≡ default_made None =
-    ap (λ (k : ℕ). absent_made defaults k (shape_at table k)) self ∙ ap (absent_made defaults t) shape ∙ ap default_made missing.unknown in
+    ap (λ (k : ℕ). absent_made table defaults k (shape_at table k)) self ∙ ap (absent_made table defaults t) shape ∙ ap default_made missing.unknown in
     cc
 
 -- a default that is known is made

@@ -1,6 +1,7 @@
 pub mod Again
 pub mod Plans
 pub mod Loops
+pub mod Marking
 pub mod Rounds
 pub mod Drafts
 pub mod Outcomes
