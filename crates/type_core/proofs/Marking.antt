@@ -1,12 +1,14 @@
 -- Marks that are set one after another say which types were marked.
-use Rattle.std.proofs.Common.{◌≡◌, ℕ, zero, suc, ◌<◌, ◌≤◌, ◌+◌, ◌||◌, List, [], ◌∷◌, ◌++◌, length, get_or, slice_get, slice_set, replicate, drop, drop-cons, add-one, Bool, true, false, Some, None, eqb, refl, sym, ap, ◌∙◌, subst, arith, length-set, not, inl, inr}
+use Rattle.std.proofs.Common.{◌≡◌, ℕ, zero, suc, ◌<◌, ◌≤◌, ◌+◌, ◌||◌, List, [], ◌∷◌, ◌++◌, length, get_or, slice_get, slice_set, replicate, drop, drop-cons, add-one, Bool, true, false, Some, None, eqb, refl, sym, ap, ◌∙◌, subst, arith, length-set, inl, inr}
 use Rattle.std.specs.Prelude.{◌⊎◌, ◌≢◌}
 use Rattle.std.proofs.lemmas.Bool.Decides.{eqb_tells}
 use Rattle.std.proofs.lemmas.List.{drop_all}
 use Rattle.snap_core.specs.declared.number.TypeNo.{TypeNo}
 use Rattle.type_core.specs.declared.shape.Property.{Property}
 use Rattle.type_core.specs.declared.shape.ModelType.{ModelType}
-use Rattle.type_core.specs.Identifiers.{has_number, types_in, property_types}
+use Rattle.type_core.specs.declared.shape.Shape.{Shape}
+use Rattle.type_core.specs.Table.{Table}
+use Rattle.type_core.specs.Identifiers.{has_number, types_in, property_types, part_type, part_types, later_identifiers, second_types}
 use Rattle.type_core.specs.Marks.{marked, AreMarks}
 
 -- where no type of a number is, no mark is set
@@ -119,4 +121,31 @@ models-next marks ms i m whole within here so_far =
 pub models-done : (marks : List Bool) (ms : List ModelType) (i : ℕ) (whole : List Bool) → length ms ≤ i → marked marks (property_types (drop i ms)) ≡ whole → marks ≡ whole
 models-done marks ms i whole past so_far =
     let P : List ModelType → Type 0 = λ ns. marked marks (property_types ns) ≡ whole in
+    subst P (drop_all i ms past) so_far
+
+-- one shape after another
+pub shapes-next : (marks : List Bool) (ss : List Shape) (i : ℕ) (s : Shape) (whole : List Bool) → i < length ss → s ≡ get_or ss i s
+    → marked marks (part_types (drop i ss)) ≡ whole → marked (marked marks (part_type s)) (part_types (drop (i + 1) ss)) ≡ whole
+shapes-next marks ss i s whole within here so_far =
+    let left : drop i ss ≡ s ∷ drop (i + 1) ss = rw (add-one, drop-cons ss i s, ← here) in
+    let P : List Shape → Type 0 = λ rs. marked marks (part_types rs) ≡ whole in
+    marked-append marks (part_type s) (part_types (drop (i + 1) ss)) ∙ subst P left so_far
+
+pub shapes-done : (marks : List Bool) (ss : List Shape) (i : ℕ) (whole : List Bool) → length ss ≤ i → marked marks (part_types (drop i ss)) ≡ whole → marks ≡ whole
+shapes-done marks ss i whole past so_far =
+    let P : List Shape → Type 0 = λ rs. marked marks (part_types rs) ≡ whole in
+    subst P (drop_all i ss past) so_far
+
+pub seconds-next : (table : Table) (marks : List Bool) (ms : List ModelType) (i : ℕ) (m : ModelType) (whole : List Bool) → i < length ms → m ≡ get_or ms i m
+    → marked marks (second_types table (drop i ms)) ≡ whole
+    → marked (marked marks (types_in (later_identifiers table m.properties))) (second_types table (drop (i + 1) ms)) ≡ whole
+seconds-next table marks ms i m whole within here so_far =
+    let left : drop i ms ≡ m ∷ drop (i + 1) ms = rw (add-one, drop-cons ms i m, ← here) in
+    let P : List ModelType → Type 0 = λ ns. marked marks (second_types table ns) ≡ whole in
+    marked-append marks (types_in (later_identifiers table m.properties)) (second_types table (drop (i + 1) ms)) ∙ subst P left so_far
+
+pub seconds-done : (table : Table) (marks : List Bool) (ms : List ModelType) (i : ℕ) (whole : List Bool) → length ms ≤ i
+    → marked marks (second_types table (drop i ms)) ≡ whole → marks ≡ whole
+seconds-done table marks ms i whole past so_far =
+    let P : List ModelType → Type 0 = λ ns. marked marks (second_types table ns) ≡ whole in
     subst P (drop_all i ms past) so_far

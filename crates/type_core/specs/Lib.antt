@@ -13,3 +13,4 @@ pub mod Reaching
 pub mod Defaulting
 pub mod Passes
 pub mod Marks
+pub mod Standings
