@@ -14,3 +14,6 @@ pub mod Defaulting
 pub mod Passes
 pub mod Marks
 pub mod Standings
+pub mod Doubled
+pub mod Seen
+pub mod Finding

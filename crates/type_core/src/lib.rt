@@ -3,6 +3,7 @@
 
 mod apart;
 mod defaults;
+mod doubling;
 mod draft;
 mod faults;
 mod identifiers;
@@ -13,6 +14,7 @@ mod making;
 mod records;
 mod rule;
 mod scalars;
+mod seen;
 mod shape;
 mod standing;
 mod table;
@@ -21,6 +23,7 @@ mod tags;
 mod types;
 mod unions;
 
+pub use doubling::doubled;
 pub use draft::Draft;
 pub use making::{MakeError, make};
 pub use rule::DraftError;
