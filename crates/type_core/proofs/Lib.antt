@@ -23,3 +23,4 @@ pub mod Examples
 pub mod SeenKeys
 pub mod Targets
 pub mod Oneness
+pub mod LevelLemmas

@@ -18,3 +18,5 @@ pub mod Targets
 pub mod Doubled
 pub mod Seen
 pub mod Finding
+pub mod Levels
+pub mod NameEnds

@@ -11,6 +11,8 @@ mod judging;
 mod leads;
 mod limits;
 mod making;
+mod names;
+mod order;
 mod records;
 mod rule;
 mod sameness;

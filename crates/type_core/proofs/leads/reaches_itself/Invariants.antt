@@ -2,7 +2,7 @@
 use Rattle.std.proofs.Common.{◌-◌}
 use Rattle.type_core.specs.Reaching.{work_of}
 use Rattle.type_core.proofs.Loops.{IsReach}
-use Rattle.type_core.proofs.leads.leads_back.Given as goal
+use Rattle.type_core.proofs.leads.reaches_itself.Given as goal
 
 abbrev pub invariant-loop-at : goal.invariant-loop-at
 invariant-loop-at l = IsReach l.table l.t.0 l.at l.marks.items l.reached.items

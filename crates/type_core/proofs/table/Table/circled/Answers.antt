@@ -1,7 +1,7 @@
 use Rattle.std.proofs.Common.{◌+◌, ◌-◌, ◌∙◌, sym}
 use Rattle.type_core.specs.Names.{named_within}
 use Rattle.type_core.proofs.Named.{named_within-step}
-use Rattle.type_core.proofs.table.Table.named.Goals as goal
+use Rattle.type_core.proofs.table.Table.circled.Goals as goal
 
 pub loop-preserved : goal.loop-preserved
 loop-preserved c =
