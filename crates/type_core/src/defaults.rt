@@ -10,6 +10,7 @@ ghost use Rattle.type_core.specs.Defaulting.{AreSoFar, IsNew, IsLightMade, Makes
 
 use crate::limits::fits;
 use crate::making::{MakeError, make_value};
+use crate::needs::order_of_defaults;
 use crate::shape::Shape;
 use crate::tagged::Tagged;
 use list_core::Parts;
@@ -19,8 +20,8 @@ use std::alloc::{AllocError, Global};
 /// The greatest weight of a default once it is made.
 const MOST_WEIGHT: u32 = 65_536;
 
-/// What each optional type makes of its default, by the types' numbers. A default that needs others
-/// is made in a round after them; none is where a default isn't made.
+/// What each optional type makes of its default, by the types' numbers; none where a default isn't
+/// made. A default that needs others is made after them.
 pub fn defaults_of(alloc: Global, types: &Tagged) -> Result<Parts<Option<Snap>>, AllocError>
     requires plain { All HoldsPlain types.now.shapes }
     ensures made { IfOk result (λ defaults. AreMade types.now defaults) }
@@ -29,6 +30,9 @@ pub fn defaults_of(alloc: Global, types: &Tagged) -> Result<Parts<Option<Snap>>,
     ensures count { IfOk result (λ defaults. length defaults ≡ length types.now.shapes) }
 {
     let mut defaults = unknown(alloc, types.table().shapes.len())?;
+    for t in &order_of_defaults(alloc, types)? {
+        let _added = add_default(alloc, types, &mut defaults, *t)?;
+    }
     'rounds: while sweep(alloc, types, &mut defaults)? {}
     Ok(defaults)
 }

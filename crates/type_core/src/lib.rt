@@ -12,6 +12,7 @@ mod leads;
 mod limits;
 mod making;
 mod names;
+mod needs;
 mod order;
 mod records;
 mod rule;
