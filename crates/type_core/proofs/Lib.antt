@@ -24,3 +24,5 @@ pub mod SeenKeys
 pub mod Targets
 pub mod Oneness
 pub mod LevelLemmas
+pub mod TakenLemmas
+pub mod ApartLemmas

@@ -20,3 +20,6 @@ pub mod Seen
 pub mod Finding
 pub mod Levels
 pub mod NameEnds
+pub mod ScalarSets
+pub mod Taking
+pub mod Literals

@@ -17,6 +17,7 @@ mod order;
 mod records;
 mod rule;
 mod sameness;
+mod scalar_set;
 mod scalars;
 mod seen;
 mod shape;
@@ -24,6 +25,7 @@ mod standing;
 mod table;
 mod tagged;
 mod tags;
+mod taken;
 mod types;
 mod unions;
 
