@@ -1,10 +1,10 @@
 -- Which numbers stand in a template once its new ones are drawn.
-use Rattle.std.proofs.Common.{◌≡◌, ℕ, zero, suc, ◌+◌, ◌<◌, ◌≤◌, Bool, true, false, Option, Some, None, refl, sym, ◌∙◌, ap, arith, inl, inr}
+use Rattle.std.proofs.Common.{◌≡◌, ℕ, zero, suc, ◌+◌, ◌<◌, ◌≤◌, Option, Some, None, refl, sym, ◌∙◌, ap, arith, inl, inr}
 use Rattle.std.specs.Prelude.{◌==◌}
 use Rattle.std.proofs.Math.Nat.{zero-add, add-zero, suc-add}
-use Rattle.std.proofs.lemmas.Bool.Decides.{Decides-eqb, eqb_tells}
+use Rattle.std.proofs.lemmas.Bool.Decides.{eqb_tells}
 use Rattle.edit_core.specs.declared.kind.Kind.{Kind}
-use Rattle.edit_core.specs.Labelled.{Label, Labelled, Annotated, Branches, Entries, leaf, many, keyed, no_branches, branch, no_entries, entry}
+use Rattle.edit_core.specs.Labelled.{Branches, Entries, leaf, many, keyed, no_branches, branch, no_entries, entry}
 use Rattle.edit_core.specs.Template.{NewLabel, Template, drawn, draws, new_count, new_count_items, new_count_entries, numbered, numbered_items, numbered_entries}
 use Rattle.edit_core.specs.Numbers.{one_where, times, times_in_items, times_in_entries}
 
@@ -53,15 +53,15 @@ among-above n next (suc count) h =
 pub among-within : (n next count : ℕ) → next ≤ n → n < next + count → among n next count ≡ 1
 among-within n next zero h g = absurd (omega arith)
 among-within n next (suc count) h g = elim (eqb_tells next n) [
-    | inl here ↦
+  | inl here ↦
       let e : one_where (next == n) ≡ 1 = ap one_where here.0 in
       let rest : among n (suc next) count ≡ 0 = among-below n (suc next) count (omega (arith, here.1)) in
       omega arith
-    | inr there ↦
+  | inr there ↦
       let e : one_where (next == n) ≡ 0 = ap one_where there.0 in
       let rest : among n (suc next) count ≡ 1 = among-within n (suc next) count (omega (arith, there.1)) (omega arith) in
       omega arith
-  ]
+]
 
 pub among-joined : (n next c d : ℕ) → among n next (c + d) ≡ among n next c + among n (next + c) d
 among-joined n next zero d =

@@ -5,16 +5,16 @@ use Rattle.edit_core.specs.declared.kind.Kind.{Kind}
 use Rattle.edit_core.specs.declared.kind.Kind.TheVariants.{Model}
 use Rattle.edit_core.specs.Labelled.{Label, Labelled, bare}
 use Rattle.edit_core.specs.Comparing.{is_equal, same_kind}
-use Rattle.edit_core.specs.Rules.{Rules, Matching, label_of, equal_under}
+use Rattle.edit_core.specs.Typing.{Typing, Matching, Rules, label_of, equal_under}
 
 -- one model with an identifier made both, and their identifiers are equal
-abbrev pub identified : Rules → Option Kind → Option Label → Value → Value → Bool
-identified r (Some (Model m)) (Some l) old new = same_kind l.kind (Model m) && equal_under (r.identifier_of m) old new
-identified r _ _ old new = false
+abbrev pub identified : Typing → Option Kind → Option Label → Value → Value → Bool
+identified typing (Some (Model m)) (Some l) old new = same_kind l.kind (Model m) && equal_under (typing.identifier_of m) old new
+identified typing _ _ old new = false
 
 -- an old item and a new one of a type are the same
-abbrev pub is_same : Rules → ℕ → Labelled → Value → Bool
-is_same r t old new = is_equal (bare old) new || identified r (r.kind_of t new) (label_of old) (bare old) new
+abbrev pub same_item : Typing → ℕ → Labelled → Value → Bool
+same_item typing t old new = is_equal (bare old) new || identified typing (typing.kind_of t new) (label_of old) (bare old) new
 
 -- a new item, and the old one that it is matched with, if any
 pub record Slot : Type 0 where
@@ -52,5 +52,8 @@ matched same olds news =
     if pairwise same olds news then map Some olds else map (λ slot. slot.old) (all_taken same olds (map open_slot news))
 
 -- items that are the same at each index stay there; otherwise each old item is matched with the first new one that is the same
-abbrev pub first_matching : Rules → Matching
-first_matching r t olds news = matched (is_same r t) olds news
+abbrev pub first_matching : Typing → Matching
+first_matching typing t olds news = matched (same_item typing t) olds news
+
+abbrev pub by_first : Typing → Rules
+by_first typing = record { typing = typing; matching = first_matching typing }

@@ -1,4 +1,4 @@
--- What reconciling asks of types, and which node stays where a value is set.
+-- What reconciling goes by, and which node stays where a value is set.
 use Rattle.std.specs.Prelude.{ℕ, List, Bool, true, false, ◌&&◌, Option, Some, None}
 use Rattle.snap_core.specs.Value.{Value, dict, value_at}
 use Rattle.snap_core.specs.declared.number.ModelNo.{ModelNo}
@@ -8,7 +8,7 @@ use Rattle.edit_core.specs.Labelled.{Label, Labelled, leaf, many, keyed, bare}
 use Rattle.edit_core.specs.Comparing.{is_equal, same_kind}
 
 -- what types say of values
-pub record Rules : Type 0 where
+pub record Typing : Type 0 where
   -- the kind of node that a type makes of a value, if it makes one
   pub kind_of : ℕ → Value → Option Kind
   -- the type of a node's part under a key
@@ -19,6 +19,11 @@ pub record Rules : Type 0 where
 -- for each new item of an array, by their type, the old item that it is matched with, if any
 abbrev pub Matching : Type 0
 Matching = ℕ → List Labelled → List Value → List (Option Labelled)
+
+-- what reconciling goes by
+pub record Rules : Type 0 where
+  pub typing : Typing
+  pub matching : Matching
 
 -- the label of a node
 abbrev pub label_of : Labelled → Option Label
@@ -45,14 +50,14 @@ abbrev pub identity_kept : Option (List ℕ) → Value → Value → Bool
 identity_kept None v w = true
 identity_kept name v w = equal_under name v w
 
-abbrev pub identity_under : Rules → Kind → Value → Value → Bool
-identity_under r (Model m) v w = identity_kept (r.identifier_of m) v w
-identity_under r _ v w = true
+abbrev pub identity_under : Typing → Kind → Value → Value → Bool
+identity_under typing (Model m) v w = identity_kept (typing.identifier_of m) v w
+identity_under typing _ v w = true
 
 -- An old node stays where a value of the same kind is set in its place: an array or a map of the same type,
 -- or a record of the same model with no identifier or an equal one.
-abbrev pub stays_as : Rules → Kind → Labelled → Value → Bool
-stays_as r kind old new = is_of (label_of old) && identity_under r kind (bare old) new where
+abbrev pub stays_as : Typing → Kind → Labelled → Value → Bool
+stays_as typing kind old new = is_of (label_of old) && identity_under typing kind (bare old) new where
   is_of : Option Label → Bool
   is_of (Some l) = same_kind l.kind kind
   is_of None = false
