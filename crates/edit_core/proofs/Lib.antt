@@ -17,3 +17,4 @@ pub mod Examples
 pub mod Drawing
 pub mod Keeping
 pub mod Numbering
+pub mod Unchanged

@@ -11,3 +11,4 @@ pub mod Laws
 pub mod Plain
 pub mod Around
 pub mod Numbers
+pub mod Labelling
