@@ -57,14 +57,14 @@ mutual
       bare-unless_equal old (dict a ms) (record_template r (r.typing.kind_of t (dict a ms)) old ms (field_templates r ms))
       (bare-record r (r.typing.kind_of t (dict a ms)) old ms (field_templates r ms) (bare-fields r ms))
 
-  bare-items : (r : Rules) (ps : Items) (t : ℕ) (olds : List (Option Labelled)) → bare_items (item_templates r ps t olds) ≡ ps
+  pub bare-items : (r : Rules) (ps : Items) (t : ℕ) (olds : List (Option Labelled)) → bare_items (item_templates r ps t olds) ≡ ps
   bare-items r no_parts t olds = refl
   bare-items r (part v ps) t olds =
       let e : bare (template r t (first_in olds) v) ≡ v = bare-template r t (first_in olds) v in
       let es : bare_items (item_templates r ps t (rest_of olds)) ≡ ps = bare-items r ps t (rest_of olds) in
       cc
 
-  bare-fields : (r : Rules) (ms : Fields) (kind : Kind) (olds : List Entry) → bare_fields (field_templates r ms kind olds) ≡ ms
+  pub bare-fields : (r : Rules) (ms : Fields) (kind : Kind) (olds : List Entry) → bare_fields (field_templates r ms kind olds) ≡ ms
   bare-fields r no_members kind olds = refl
   bare-fields r (member k v ms) kind olds =
       let e : bare (template r (r.typing.type_under kind k) (entry_at k olds) v) ≡ v = bare-template r (r.typing.type_under kind k) (entry_at k olds) v in
@@ -77,14 +77,14 @@ mutual
   bare-numbered next (many l bs) = ap (list tt) (bare-numbered_items (next + draws l) bs)
   bare-numbered next (keyed l es) = ap (dict tt) (bare-numbered_entries (next + draws l) es)
 
-  bare-numbered_items : (next : ℕ) (bs : Branches NewLabel) → bare_items (numbered_items next bs) ≡ bare_items bs
+  pub bare-numbered_items : (next : ℕ) (bs : Branches NewLabel) → bare_items (numbered_items next bs) ≡ bare_items bs
   bare-numbered_items next no_branches = refl
   bare-numbered_items next (branch x bs) =
       let e : bare (numbered next x) ≡ bare x = bare-numbered next x in
       let es : bare_items (numbered_items (next + new_count x) bs) ≡ bare_items bs = bare-numbered_items (next + new_count x) bs in
       cc
 
-  bare-numbered_entries : (next : ℕ) (es : Entries NewLabel) → bare_fields (numbered_entries next es) ≡ bare_fields es
+  pub bare-numbered_entries : (next : ℕ) (es : Entries NewLabel) → bare_fields (numbered_entries next es) ≡ bare_fields es
   bare-numbered_entries next no_entries = refl
   bare-numbered_entries next (entry k x es) =
       let e : bare (numbered next x) ≡ bare x = bare-numbered next x in

@@ -18,3 +18,4 @@ pub mod Drawing
 pub mod Keeping
 pub mod Numbering
 pub mod Unchanged
+pub mod Labelling

@@ -18,6 +18,8 @@ use Rattle.edit_core.specs.Between.{OldPart, values, entries_of, stays, all_stay
 use Rattle.edit_core.specs.Typing.{Rules}
 use Rattle.edit_core.specs.Template.{Template, kept, kept_branches, kept_entries, unless_equal, template, numbered, numbered_items, numbered_entries, new_count, new_count_items, new_count_entries}
 use Rattle.edit_core.specs.Reconciling.{Setting, Written, written_as, reconciled}
+use Rattle.edit_core.specs.Laws.{ChangesNothing}
+use Rattle.edit_core.proofs.Reconciling.{reconciled-leads}
 
 both-true : (a b : Bool) → a ≡ true → b ≡ true → (a && b) ≡ true
 both-true true true h g = refl
@@ -145,3 +147,9 @@ equal-unchanged r s same =
 pub no-edits : (x y : Labelled) (es : List Edit) → es ≡ [] → LeadInTurn x es y → y ≡ x
 no-edits x y es none (no_edits w) = refl
 no-edits x y es none (one_edit a b c e rest lead run) = absurd (cc none)
+
+pub changes-nothing : (r : Rules) (s : Setting) → ChangesNothing s (reconciled r s)
+changes-nothing r s = record {
+  equal = equal-unchanged r s;
+  no_edits = λ none. no-edits s.old (reconciled r s).value (reconciled r s).edits none (reconciled-leads r s).leads;
+}

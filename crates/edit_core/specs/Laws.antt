@@ -1,5 +1,5 @@
 -- What holds of edits and of reconciling.
-use Rattle.std.specs.Prelude.{◌≡◌, ℕ, List, ◌∷◌, map, IsTrue}
+use Rattle.std.specs.Prelude.{◌≡◌, ℕ, List, ◌∷◌, [], map, None, IsTrue}
 use Rattle.snap_core.specs.Value.{Value, IsOrdered}
 use Rattle.patch_core.specs.Fits.{LeadsTo}
 use Rattle.edit_core.specs.Labelled.{Labelled, bare}
@@ -9,7 +9,9 @@ use Rattle.edit_core.specs.Around.{Around, standing_in, seen_from}
 use Rattle.edit_core.specs.Between.{stays, edits_between}
 use Rattle.edit_core.specs.Plain.{IsShort, patch_of}
 use Rattle.edit_core.specs.Typing.{Typing, Rules}
-use Rattle.edit_core.specs.Matching.{first_matching}
+use Rattle.edit_core.specs.Matching.{first_matching, by_first}
+use Rattle.edit_core.specs.Template.{template, numbered}
+use Rattle.edit_core.specs.Labelling.{IsSuited, IsLabelledBy}
 use Rattle.edit_core.specs.Numbers.{AreNumbered, MatchesOnce, HasNumbers}
 use Rattle.edit_core.specs.Reconciling.{Setting, Written, reconciled}
 
@@ -68,3 +70,19 @@ NumbersDiffer =
 -- the first new item that is the same is matched with one old item alone
 abbrev pub FirstMatchesOnce : Type 0
 FirstMatchesOnce = (typing : Typing) → MatchesOnce (first_matching typing)
+
+-- an equal value changes nothing, and where there are no edits, nothing is changed
+pub record ChangesNothing (s : Setting) (w : Written) : Type 0 where
+  pub equal : s.new ≡ bare s.old → w ≡ record { value = s.old; edits = []; next = s.next }
+  pub no_edits : w.edits ≡ [] → w.value ≡ s.old
+
+abbrev pub EqualChangesNothing : Type 0
+EqualChangesNothing = (rules : Rules) (s : Setting) → ChangesNothing s (reconciled rules s)
+
+-- labels are those that the types give: of a new value, and of one that is set in the place of an old one
+pub record LabelsAreTyped (typing : Typing) : Type 0 where
+  pub anew : (next t : ℕ) (v : Value) → IsLabelledBy typing t (numbered next (template (by_first typing) t None v))
+  pub again : (s : Setting) → IsLabelledBy typing s.type s.old → IsLabelledBy typing s.type (reconciled (by_first typing) s).value
+
+abbrev pub LabelsFollowTypes : Type 0
+LabelsFollowTypes = (typing : Typing) → IsSuited typing → LabelsAreTyped typing
