@@ -67,8 +67,8 @@ zero_or_more (suc n) = inr (omega arith)
 single_zero : (index : ℕ) → index < 2 ^ 64 → get_or (decimal index) 0 0 ≡ 48 → length (decimal index) ≡ 1
 single_zero index fits first =
     elim (zero_or_more index) as (λ _. length (decimal index) ≡ 1) [
-      inl is ↦ ap (λ n. length (decimal n)) is ∙ ap length (decimal_digit 0 (omega arith))
-    | inr more ↦ absurd (omega (arith, first_decimal index more fits))
+      | inl is ↦ ap (λ n. length (decimal n)) is ∙ ap length (decimal_digit 0 (omega arith))
+      | inr more ↦ absurd (omega (arith, first_decimal index more fits))
     ]
 
 pub index_of_decimal : (index : ℕ) → index < 2 ^ 32 → index_of (decimal index) ≡ Some index

@@ -63,8 +63,8 @@ digit_follows false c rest fine is_open = absurd (let closed : false ≡ true = 
 digit_follows true c rest fine is_open =
     let ends = escape_ends (encode c ++ rest) fine.0 in
     elim ends.1 as (λ _. (c ≡ 48) ⊎ (c ≡ 49)) [
-      inl e ↦ inl (char_from_byte (encode c ++ rest) rest c refl (omega arith) ends.0 ∙ e)
-    | inr e ↦ inr (char_from_byte (encode c ++ rest) rest c refl (omega arith) ends.0 ∙ e)
+      | inl e ↦ inl (char_from_byte (encode c ++ rest) rest c refl (omega arith) ends.0 ∙ e)
+      | inr e ↦ inr (char_from_byte (encode c ++ rest) rest c refl (omega arith) ends.0 ∙ e)
     ]
 
 opened : (test : Bool) (c : ℕ) (rest : List ℕ) → eqb c 126 ≡ test → Fine (encode c ++ rest) → Fine (open_tilde test ++ rest)
@@ -104,18 +104,18 @@ unfolding encode
 empty_without_slash [] e no_slash = refl
 empty_without_slash (b ∷ bs) e no_slash =
     elim (eqb b 47) as (λ test. eqb b 47 ≡ test → cond test (option_map BadTilde (wrong_tilde (b ∷ bs))) (Some NoSlash) ≡ None → b ∷ bs ≡ []) [
-      true ↦ λ is found. absurd (let slash : b ≡ 47 = grind (arith, nat_tests) in no_slash bs (ap (λ x. x ∷ bs) slash))
-    | false ↦ λ other found. absurd (cc)
+      | true ↦ λ is found. absurd (let slash : b ≡ 47 = grind (arith, nat_tests) in no_slash bs (ap (λ x. x ∷ bs) slash))
+      | false ↦ λ other found. absurd (cc)
     ] refl e
 
 -- what is printed
 byte_fine : (b : ℕ) (rest : List ℕ) → Fine rest → Fine (escaped_byte b ++ rest)
 byte_fine b rest fine =
     elim (eqb b 126) as (λ test. eqb b 126 ≡ test → Fine (cond test (codes "~0") (cond (eqb b 47) (codes "~1") (b ∷ [])) ++ rest)) [
-      true ↦ λ _. (refl, (refl, fine))
-    | false ↦ λ e. elim (eqb b 47) as (λ test. Fine (cond test (codes "~1") (b ∷ []) ++ rest)) [
-        true ↦ (refl, (refl, fine))
-      | false ↦ (ap (λ test. test && not (ends_escape rest)) e, fine)
+      | true ↦ λ _. (refl, (refl, fine))
+      | false ↦ λ e. elim (eqb b 47) as (λ test. Fine (cond test (codes "~1") (b ∷ []) ++ rest)) [
+        | true ↦ (refl, (refl, fine))
+        | false ↦ (ap (λ test. test && not (ends_escape rest)) e, fine)
       ]
     ] refl
 

@@ -18,10 +18,10 @@ split (b ∷ bs) = cond (eqb b 47) ([], (split bs).0 ∷ (split bs).1) (cond (eq
 split_byte : (b : ℕ) (rest : List ℕ) → split (escaped_byte b ++ rest) ≡ (b ∷ (split rest).0, (split rest).1)
 split_byte b rest =
     elim (eqb b 126) as (λ test. eqb b 126 ≡ test → split (cond test (codes "~0") (cond (eqb b 47) (codes "~1") (b ∷ [])) ++ rest) ≡ (b ∷ (split rest).0, (split rest).1)) [
-      true ↦ λ e. (let is : b ≡ 126 = grind (arith, nat_tests) in ap (λ x. (x ∷ (split rest).0, (split rest).1)) (sym is))
-    | false ↦ λ e. elim (eqb b 47) as (λ test. eqb b 47 ≡ test → split (cond test (codes "~1") (b ∷ []) ++ rest) ≡ (b ∷ (split rest).0, (split rest).1)) [
-        true ↦ λ d. (let is : b ≡ 47 = grind (arith, nat_tests) in ap (λ x. (x ∷ (split rest).0, (split rest).1)) (sym is))
-      | false ↦ λ d. rw (d, e) refl
+      | true ↦ λ e. (let is : b ≡ 126 = grind (arith, nat_tests) in ap (λ x. (x ∷ (split rest).0, (split rest).1)) (sym is))
+      | false ↦ λ e. elim (eqb b 47) as (λ test. eqb b 47 ≡ test → split (cond test (codes "~1") (b ∷ []) ++ rest) ≡ (b ∷ (split rest).0, (split rest).1)) [
+        | true ↦ λ d. (let is : b ≡ 47 = grind (arith, nat_tests) in ap (λ x. (x ∷ (split rest).0, (split rest).1)) (sym is))
+        | false ↦ λ d. rw (d, e) refl
       ] refl
     ] refl
 

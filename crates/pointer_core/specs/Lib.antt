@@ -3,3 +3,4 @@ pub mod Path
 pub mod Reading
 pub mod Rule
 pub mod Spelling
+pub mod Text

@@ -157,7 +157,9 @@ fn finish(reading: Reading) -> Result<Pointer, AllocError>
     ensures { IfOk result (λ pointer. printed pointer ≡ text_so_far reading) }
 {
     let Reading {
-        mut before, token, ..
+        mut before,
+        token,
+        ..
     } = reading;
     before.push(token)?;
     Ok(before)

@@ -8,5 +8,5 @@ use Rattle.pointer_core.proofs.parse.read_behind.Given as goal
 abbrev pub invariant-loop-c : goal.invariant-loop-c
 invariant-loop-c l = record {
   whole : text_so_far l.reading ++ chars_rest l.c-iterator ≡ 47 ∷ l.behind;
-  fine : Fine (open_tilde l.reading.escape ++ chars_rest l.c-iterator)
+  fine : Fine (open_tilde l.reading.escape ++ chars_rest l.c-iterator);
 }
