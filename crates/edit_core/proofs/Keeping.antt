@@ -12,7 +12,7 @@ use Rattle.edit_core.specs.declared.kind.Kind.{Kind}
 use Rattle.edit_core.specs.declared.kind.Kind.TheVariants.{Model, Array, Map}
 use Rattle.edit_core.specs.Labelled.{Label, Labelled, Entry, Branches, Entries, leaf, many, keyed, no_branches, branch, no_entries, entry, items_in, entries_in, bare}
 use Rattle.edit_core.specs.Comparing.{is_equal}
-use Rattle.edit_core.specs.Typing.{Typing, Rules, stays_as}
+use Rattle.edit_core.specs.Typing.{Typing, Rules, seen, stays_as}
 use Rattle.edit_core.specs.Template.{NewLabel, Template, kept, kept_branches, kept_entries, standing, label_for, items_under, entries_under, entry_at, values_in, unless_equal, array_template, record_template, template, item_templates, field_templates}
 use Rattle.edit_core.specs.Numbers.{times, times_in_items, times_in_entries, matched_sum, MatchesOnce}
 use Rattle.edit_core.proofs.Drawing.{keeps, kept_times, kept_in_items, kept_in_entries}
@@ -56,7 +56,7 @@ kept-unless_equal n (Some old) v other h =
 
 standing-times : (n : ℕ) (r : Typing) (kind : Kind) (old : Option Labelled) (v : Value) → times_if n (standing r kind old v) ≤ times_if n old
 standing-times n r kind None v = omega arith
-standing-times n r kind (Some old) v = elim (stays_as r kind old v) as (λ b. times_if n (if b then Some old else None) ≤ times n old) [ true ↦ omega arith | false ↦ omega arith ]
+standing-times n r kind (Some old) v = elim (stays_as r kind (seen old) v) as (λ b. times_if n (if b then Some old else None) ≤ times n old) [ true ↦ omega arith | false ↦ omega arith ]
 
 items-times : (n : ℕ) (kind : Kind) (old : Option Labelled) → keeps n (label_for kind old).number + sum_by (times n) (items_under old) ≤ times_if n old
 items-times n kind None = omega arith

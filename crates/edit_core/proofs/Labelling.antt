@@ -8,7 +8,7 @@ use Rattle.edit_core.specs.declared.kind.Kind.{Kind}
 use Rattle.edit_core.specs.declared.kind.Kind.TheVariants.{Model, Array, Map}
 use Rattle.edit_core.specs.Labelled.{Label, Labelled, Entry, Branches, Entries, leaf, many, keyed, no_branches, branch, no_entries, entry, items_in, entries_in, bare, bare_items, bare_fields}
 use Rattle.edit_core.specs.Comparing.{is_equal, same_kind}
-use Rattle.edit_core.specs.Typing.{Typing, Rules, label_of, stays_as}
+use Rattle.edit_core.specs.Typing.{Typing, Rules, label_of, seen, stays_as}
 use Rattle.edit_core.specs.Matching.{Slot, is_open, taken, all_taken, open_slot, pairwise, matched, first_matching, by_first, same_item}
 use Rattle.edit_core.specs.Template.{NewLabel, Template, kept, standing, label_for, items_under, entries_under, entry_at, first_in, rest_of, values_in, unless_equal, array_template, record_template, template, item_templates, field_templates, drawn, draws, new_count, numbered, numbered_items, numbered_entries}
 use Rattle.edit_core.specs.Reconciling.{Setting, reconciled}
@@ -86,7 +86,7 @@ module _ (typing : Typing) where
 
   -- the parts of a node that stays are labelled by its kind
 
-  kind-kept : (kind : Kind) (old : Labelled) (l : Label) (new : Value) → label_of old ≡ Some l → stays_as typing kind old new ≡ true → l.kind ≡ kind
+  kind-kept : (kind : Kind) (old : Labelled) (l : Label) (new : Value) → label_of old ≡ Some l → stays_as typing kind (seen old) new ≡ true → l.kind ≡ kind
   kind-kept kind (leaf v) l new none h = absurd (cc none)
   kind-kept kind (many m bs) l new is h =
       let same : m ≡ l = cc is in
@@ -99,14 +99,14 @@ module _ (typing : Typing) where
 
   standing-labelled : (t : ℕ) (kind : Kind) (old : Option Labelled) (new : Value) → IfLabelledBy typing t old → IfLabelledBy typing t (standing typing kind old new)
   standing-labelled t kind None new h = tt
-  standing-labelled t kind (Some old) new h = elim (stays_as typing kind old new) as (λ b. IfLabelledBy typing t (if b then Some old else None)) [ true ↦ h | false ↦ tt ]
+  standing-labelled t kind (Some old) new h = elim (stays_as typing kind (seen old) new) as (λ b. IfLabelledBy typing t (if b then Some old else None)) [ true ↦ h | false ↦ tt ]
 
   items_under-labelled : (t : ℕ) (u : _) (old : Option Labelled) (new : Value) → IfLabelledBy typing t old → AllLabelledBy typing u.0 (items_under (standing typing (Array u) old new))
   items_under-labelled t u None new h = tt
-  items_under-labelled t u (Some (leaf v)) new h = elim (stays_as typing (Array u) (leaf v) new) as (λ b. AllLabelledBy typing u.0 (items_under (if b then Some (leaf v) else None))) [ true ↦ tt | false ↦ tt ]
-  items_under-labelled t u (Some (keyed l es)) new h = elim (stays_as typing (Array u) (keyed l es) new) as (λ b. AllLabelledBy typing u.0 (items_under (if b then Some (keyed l es) else None))) [ true ↦ tt | false ↦ tt ]
-  items_under-labelled t u (Some (many l bs)) new h = go (stays_as typing (Array u) (many l bs) new) refl where
-    go : (b : Bool) → stays_as typing (Array u) (many l bs) new ≡ b → AllLabelledBy typing u.0 (items_under (if b then Some (many l bs) else None))
+  items_under-labelled t u (Some (leaf v)) new h = elim (stays_as typing (Array u) (seen (leaf v)) new) as (λ b. AllLabelledBy typing u.0 (items_under (if b then Some (leaf v) else None))) [ true ↦ tt | false ↦ tt ]
+  items_under-labelled t u (Some (keyed l es)) new h = elim (stays_as typing (Array u) (seen (keyed l es)) new) as (λ b. AllLabelledBy typing u.0 (items_under (if b then Some (keyed l es) else None))) [ true ↦ tt | false ↦ tt ]
+  items_under-labelled t u (Some (many l bs)) new h = go (stays_as typing (Array u) (seen (many l bs)) new) refl where
+    go : (b : Bool) → stays_as typing (Array u) (seen (many l bs)) new ≡ b → AllLabelledBy typing u.0 (items_under (if b then Some (many l bs) else None))
     go true same =
         let P : Kind → Type 0 = λ k. IfArray k (λ w. AreLabelledBy typing w bs) in
         items-labelled u.0 bs (subst P (kind-kept (Array u) (many l bs) l new refl same) h.1)
@@ -119,10 +119,10 @@ module _ (typing : Typing) where
 
   entries_under-labelled : (t : ℕ) (kind : Kind) (old : Option Labelled) (new : Value) → IfLabelledBy typing t old → EachLabelledBy typing kind (entries_under (standing typing kind old new))
   entries_under-labelled t kind None new h = tt
-  entries_under-labelled t kind (Some (leaf v)) new h = elim (stays_as typing kind (leaf v) new) as (λ b. EachLabelledBy typing kind (entries_under (if b then Some (leaf v) else None))) [ true ↦ tt | false ↦ tt ]
-  entries_under-labelled t kind (Some (many l bs)) new h = elim (stays_as typing kind (many l bs) new) as (λ b. EachLabelledBy typing kind (entries_under (if b then Some (many l bs) else None))) [ true ↦ tt | false ↦ tt ]
-  entries_under-labelled t kind (Some (keyed l es)) new h = go (stays_as typing kind (keyed l es) new) refl where
-    go : (b : Bool) → stays_as typing kind (keyed l es) new ≡ b → EachLabelledBy typing kind (entries_under (if b then Some (keyed l es) else None))
+  entries_under-labelled t kind (Some (leaf v)) new h = elim (stays_as typing kind (seen (leaf v)) new) as (λ b. EachLabelledBy typing kind (entries_under (if b then Some (leaf v) else None))) [ true ↦ tt | false ↦ tt ]
+  entries_under-labelled t kind (Some (many l bs)) new h = elim (stays_as typing kind (seen (many l bs)) new) as (λ b. EachLabelledBy typing kind (entries_under (if b then Some (many l bs) else None))) [ true ↦ tt | false ↦ tt ]
+  entries_under-labelled t kind (Some (keyed l es)) new h = go (stays_as typing kind (seen (keyed l es)) new) refl where
+    go : (b : Bool) → stays_as typing kind (seen (keyed l es)) new ≡ b → EachLabelledBy typing kind (entries_under (if b then Some (keyed l es) else None))
     go true same =
         let P : Kind → Type 0 = λ k. HoldLabelledBy typing k es in
         entries-labelled kind es (subst P (kind-kept kind (keyed l es) l new refl same) (if-record l.kind es h.1))
@@ -181,12 +181,12 @@ module _ (typing : Typing) where
   array-labelled suited t next old ps making h made given (Some (Array u)) is =
       let stays : Option Labelled = standing typing (Array u) old (list tt ps) in
       let label : NewLabel = label_for (Array u) stays in
-      let slots : List (Option Labelled) = matched (same_item typing u.0) (items_under stays) (values_in ps) in
+      let slots : List (Option Labelled) = matched (λ o n. same_item typing u.0 (seen o) n) (items_under stays) (values_in ps) in
       let items : Branches Label = numbered_items (next + draws label) (making u.0 slots) in
       let kind : (drawn next label).kind ≡ Array u = label-kind (Array u) stays next in
       let P : Kind → Type 0 = λ k. IfArray k (λ w. AreLabelledBy typing w items) in (
         ap (λ qs. typing.kind_of t (list tt qs)) (given u.0 (next + draws label) slots) ∙ is ∙ ap Some (sym kind),
-        subst P (sym kind) (made u.0 (next + draws label) slots (matched-labelled u.0 (same_item typing u.0) (items_under stays) (values_in ps) (items_under-labelled t u old (list tt ps) h))),
+        subst P (sym kind) (made u.0 (next + draws label) slots (matched-labelled u.0 (λ o n. same_item typing u.0 (seen o) n) (items_under stays) (values_in ps) (items_under-labelled t u old (list tt ps) h))),
       )
 
   keyed-labelled : (t next : ℕ) (old : Option Labelled) (ms : Fields) (making : Kind → List Entry → Entries NewLabel) (kind : Kind) → IfLabelledBy typing t old

@@ -19,3 +19,5 @@ pub mod Keeping
 pub mod Numbering
 pub mod Unchanged
 pub mod Labelling
+pub mod RuleLinks
+pub mod RuleMatching

@@ -5,7 +5,7 @@ use Rattle.std.proofs.lemmas.Bool.{cases_lt}
 use Rattle.std.proofs.lemmas.List.Sums.{sum_by-cons}
 use Rattle.snap_core.specs.Value.{Value, IsOrdered}
 use Rattle.edit_core.specs.Labelled.{Labelled}
-use Rattle.edit_core.specs.Typing.{Typing, Rules}
+use Rattle.edit_core.specs.Typing.{Typing, Rules, seen}
 use Rattle.edit_core.specs.Matching.{Slot, taken, all_taken, open_slot, pairwise, matched, first_matching, same_item}
 use Rattle.edit_core.specs.Template.{Template, template, new_count}
 use Rattle.edit_core.specs.Reconciling.{Setting, Written, reconciled}
@@ -35,7 +35,7 @@ numbered-again next old w numbered has = record {
 -- matching by the first that is the same uses each old item once
 
 module _ (f : Labelled → ℕ) where
-  abbrev slots_sum : List Slot → ℕ
+  abbrev pub slots_sum : List Slot → ℕ
   slots_sum slots = matched_sum f (map (λ slot. slot.old) slots)
 
   open-sum : (news : List Value) → slots_sum (map open_slot news) ≡ 0
@@ -47,7 +47,7 @@ module _ (f : Labelled → ℕ) where
   all-sum (x ∷ xs) = ap (λ s. f x + s) (all-sum xs) ∙ sym (sum_by-cons f x xs)
 
   module _ (same : Labelled → Value → Bool) where
-    taken-sum : (old : Labelled) (slots : List Slot) → slots_sum (taken same old slots) ≤ f old + slots_sum slots
+    pub taken-sum : (old : Labelled) (slots : List Slot) → slots_sum (taken same old slots) ≤ f old + slots_sum slots
     taken-sum old [] = omega arith
     taken-sum old (slot ∷ slots) = go slot.new slot.old (taken-sum old slots) where
       go : (new : Value) (held : Option Labelled) → slots_sum (taken same old slots) ≤ f old + slots_sum slots
@@ -71,7 +71,7 @@ module _ (f : Labelled → ℕ) where
         ]
 
 pub first-once : (r : Typing) → MatchesOnce (first_matching r)
-first-once r t olds news f = matched-sum f (same_item r t) olds news
+first-once r t olds news f = matched-sum f (λ o n. same_item r t (seen o) n) olds news
 
 pub numbering : (r : Rules) (s : Setting) → MatchesOnce r.matching → IsOrdered s.new → AreNumbered s.next s.old → IsWellNumbered s.next s.old (reconciled r s)
 numbering r s once ordered numbered =

@@ -21,7 +21,7 @@ use Rattle.edit_core.specs.Reconciling.{Setting, Written, written_as, reconciled
 use Rattle.edit_core.specs.Laws.{ChangesNothing}
 use Rattle.edit_core.proofs.Reconciling.{reconciled-leads}
 
-both-true : (a b : Bool) → a ≡ true → b ≡ true → (a && b) ≡ true
+pub both-true : (a b : Bool) → a ≡ true → b ≡ true → (a && b) ≡ true
 both-true true true h g = refl
 both-true true false h g = g
 both-true false b h g = h

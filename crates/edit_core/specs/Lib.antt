@@ -12,3 +12,4 @@ pub mod Plain
 pub mod Around
 pub mod Numbers
 pub mod Labelling
+pub mod Rules

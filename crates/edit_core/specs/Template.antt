@@ -6,7 +6,7 @@ use Rattle.edit_core.specs.declared.kind.Kind.{Kind}
 use Rattle.edit_core.specs.declared.kind.Kind.TheVariants.{Array}
 use Rattle.edit_core.specs.Labelled.{Label, Annotated, Branches, Entries, Labelled, Entry, leaf, many, keyed, no_branches, branch, no_entries, entry, items_in, entries_in, bare}
 use Rattle.edit_core.specs.Comparing.{is_equal}
-use Rattle.edit_core.specs.Typing.{Typing, Rules, label_of, stays_as}
+use Rattle.edit_core.specs.Typing.{Typing, Rules, label_of, seen, stays_as}
 
 -- a label whose number is kept, or still to be drawn
 pub record NewLabel : Type 0 where
@@ -37,7 +37,7 @@ abbrev mutual
 
 -- the node that stays, if any, where a value of a kind is set
 abbrev pub standing : Typing → Kind → Option Labelled → Value → Option Labelled
-standing typing kind (Some old) new = if stays_as typing kind old new then Some old else None
+standing typing kind (Some old) new = if stays_as typing kind (seen old) new then Some old else None
 standing typing kind None new = None
 
 -- the label of the node that stays, or a new one

@@ -54,10 +54,24 @@ abbrev pub identity_under : Typing → Kind → Value → Value → Bool
 identity_under typing (Model m) v w = identity_kept (typing.identifier_of m) v w
 identity_under typing _ v w = true
 
+-- a value, and the kind of node that its type makes of it, if any
+pub record Typed : Type 0 where
+  pub kind : Option Kind
+  pub value : Value
+
+abbrev pub kind_in : Option Label → Option Kind
+kind_in (Some l) = Some l.kind
+kind_in None = None
+
+-- a labelled value as that
+abbrev pub seen : Labelled → Typed
+seen x = record { kind = kind_in (label_of x); value = bare x }
+
+abbrev pub is_kind : Option Kind → Kind → Bool
+is_kind (Some k) kind = same_kind k kind
+is_kind None kind = false
+
 -- An old node stays where a value of the same kind is set in its place: an array or a map of the same type,
 -- or a record of the same model with no identifier or an equal one.
-abbrev pub stays_as : Typing → Kind → Labelled → Value → Bool
-stays_as typing kind old new = is_of (label_of old) && identity_under typing kind (bare old) new where
-  is_of : Option Label → Bool
-  is_of (Some l) = same_kind l.kind kind
-  is_of None = false
+abbrev pub stays_as : Typing → Kind → Typed → Value → Bool
+stays_as typing kind old new = is_kind old.kind kind && identity_under typing kind old.value new
