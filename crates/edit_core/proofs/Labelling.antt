@@ -35,11 +35,11 @@ EachLabelledBy typing kind [] = Unit {0}
 EachLabelledBy typing kind (e ∷ es) = IsLabelledBy typing (typing.type_under kind e.0) e.1 × EachLabelledBy typing kind es
 
 module _ (typing : Typing) where
-  items-labelled : (t : ℕ) (bs : Branches Label) → AreLabelledBy typing t bs → AllLabelledBy typing t (items_in bs)
+  pub items-labelled : (t : ℕ) (bs : Branches Label) → AreLabelledBy typing t bs → AllLabelledBy typing t (items_in bs)
   items-labelled t no_branches h = tt
   items-labelled t (branch x bs) h = (h.0, items-labelled t bs h.1)
 
-  entries-labelled : (kind : Kind) (es : Entries Label) → HoldLabelledBy typing kind es → EachLabelledBy typing kind (entries_in es)
+  pub entries-labelled : (kind : Kind) (es : Entries Label) → HoldLabelledBy typing kind es → EachLabelledBy typing kind (entries_in es)
   entries-labelled kind no_entries h = tt
   entries-labelled kind (entry k x es) h = (h.0, entries-labelled kind es h.1)
 
@@ -112,7 +112,7 @@ module _ (typing : Typing) where
         items-labelled u.0 bs (subst P (kind-kept (Array u) (many l bs) l new refl same) h.1)
     go false other = tt
 
-  if-record : (kind : Kind) (es : Entries Label) → IfRecord kind (HoldLabelledBy typing kind es) → HoldLabelledBy typing kind es
+  pub if-record : (kind : Kind) (es : Entries Label) → IfRecord kind (HoldLabelledBy typing kind es) → HoldLabelledBy typing kind es
   if-record (Array t) es h = absurd h
   if-record (Map t) es h = h
   if-record (Model m) es h = h

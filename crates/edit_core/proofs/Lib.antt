@@ -21,3 +21,4 @@ pub mod Unchanged
 pub mod Labelling
 pub mod RuleLinks
 pub mod RuleMatching
+pub mod RuleItems

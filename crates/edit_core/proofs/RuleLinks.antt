@@ -90,7 +90,7 @@ top_kept (leaf v) = None
 top_kept (many l bs) = l.number
 top_kept (keyed l es) = l.number
 
-number-itself : (n : ℕ) → (n == n) ≡ true
+pub number-itself : (n : ℕ) → (n == n) ≡ true
 number-itself n = (Decides-eqb n n).1 refl
 
 kept-top : (n : ℕ) (x : Labelled) → top_kept (kept x) ≡ Some n → is_number n (label_of x) ≡ true
