@@ -37,15 +37,15 @@ abbrev times_if : ℕ → Option Labelled → ℕ
 times_if n (Some x) = times n x
 times_if n None = 0
 
-abbrev times_each : ℕ → List Entry → ℕ
+abbrev pub times_each : ℕ → List Entry → ℕ
 times_each n [] = 0
 times_each n (e ∷ es) = times n e.1 + times_each n es
 
-each-entries : (n : ℕ) (es : Entries Label) → times_each n (entries_in es) ≡ times_in_entries n es
+pub each-entries : (n : ℕ) (es : Entries Label) → times_each n (entries_in es) ≡ times_in_entries n es
 each-entries n no_entries = refl
 each-entries n (entry k x es) = omega (arith, each-entries n es)
 
-sum-items : (n : ℕ) (bs : Branches Label) → sum_by (times n) (items_in bs) ≡ times_in_items n bs
+pub sum-items : (n : ℕ) (bs : Branches Label) → sum_by (times n) (items_in bs) ≡ times_in_items n bs
 sum-items n no_branches = refl
 sum-items n (branch x bs) = sum_by-cons (times n) x (items_in bs) ∙ ap (λ s. times n x + s) (sum-items n bs)
 

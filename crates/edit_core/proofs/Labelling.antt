@@ -43,7 +43,7 @@ module _ (typing : Typing) where
   entries-labelled kind no_entries h = tt
   entries-labelled kind (entry k x es) h = (h.0, entries-labelled kind es h.1)
 
-  found-labelled : (kind : Kind) (k : List ℕ) (es : List Entry) → EachLabelledBy typing kind es → IfLabelledBy typing (typing.type_under kind k) (entry_at k es)
+  pub found-labelled : (kind : Kind) (k : List ℕ) (es : List Entry) → EachLabelledBy typing kind es → IfLabelledBy typing (typing.type_under kind k) (entry_at k es)
   found-labelled kind k [] h = tt
   found-labelled kind k (e ∷ es) h = go (bytes_eq k e.0) refl (found-labelled kind k es h.1) where
     go : (b : Bool) → bytes_eq k e.0 ≡ b → IfLabelledBy typing (typing.type_under kind k) (entry_at k es) → IfLabelledBy typing (typing.type_under kind k) (if b then Some e.1 else entry_at k es)

@@ -22,3 +22,4 @@ pub mod Labelling
 pub mod RuleLinks
 pub mod RuleMatching
 pub mod RuleItems
+pub mod RuleFields

@@ -29,7 +29,7 @@ after-plain : (k : List ℕ) (es : Entries Label) → ComesBefore k (keys_of (ba
 after-plain k no_entries before ordered = tt
 after-plain k (entry j x es) before ordered = (before, after-further k j (entries_in es) before (after-plain j es ordered.1 ordered.2))
 
-ascend-plain : (es : Entries Label) → AreOrderedMembers (bare_fields es) → Ascend (entries_in es)
+pub ascend-plain : (es : Entries Label) → AreOrderedMembers (bare_fields es) → Ascend (entries_in es)
 ascend-plain no_entries ordered = tt
 ascend-plain (entry k x es) ordered = (after-plain k es ordered.1 ordered.2, ascend-plain es ordered.2)
 

@@ -200,7 +200,7 @@ module _ (typing : Typing) where
     identity = identity-from (typing.identifier_of m) old.value new (and-right (is_kind old.kind (Model m)) _ h);
   }
 
-  kind-label : (x : Labelled) (l : Label) (kind : Kind) → label_of x ≡ Some l → is_kind (seen x).kind kind ≡ true → l.kind ≡ kind
+  pub kind-label : (x : Labelled) (l : Label) (kind : Kind) → label_of x ≡ Some l → is_kind (seen x).kind kind ≡ true → l.kind ≡ kind
   kind-label (leaf v) l kind named h = absurd (cc named)
   kind-label (many m bs) l kind named h = let same : m ≡ l = cc named in let P : Label → Type 0 = λ k. k.kind ≡ kind in subst P same (kind-is m.kind kind h)
   kind-label (keyed m es) l kind named h = let same : m ≡ l = cc named in let P : Label → Type 0 = λ k. k.kind ≡ kind in subst P same (kind-is m.kind kind h)
