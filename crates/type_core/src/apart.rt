@@ -42,11 +42,15 @@ fn is_member(shape: Option<&Shape>) -> bool
     match shape {
         None => false,
         Some(
-            Shape::Frozen
+            Shape::Identifier
+            | Shape::IdentifierNumber
+            | Shape::Frozen
             | Shape::Optional(_, _)
             | Shape::Maybe(_)
             | Shape::MaybeNull(_)
             | Shape::Union(_)
+            | Shape::Reference(_)
+            | Shape::Safe(_)
             | Shape::Named(_),
         ) => false,
         Some(_) => true,
