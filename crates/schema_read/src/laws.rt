@@ -1,4 +1,4 @@
-ghost use Rattle.schema_read.specs.Laws.{SchemaHasNoFault, FirstFaultIsOne};
+ghost use Rattle.schema_read.specs.Laws.{SchemaHasNoFault, FirstFaultIsOne, FileIsOneSchema};
 
 /// Bytes that are a schema have no fault.
 pub fn schema_has_no_fault()
@@ -8,4 +8,9 @@ pub fn schema_has_no_fault()
 /// Bytes have one first fault at most.
 pub fn first_fault_is_one()
     ensures { FirstFaultIsOne }
+{}
+
+/// Bytes are one schema at most.
+pub fn file_is_one_schema()
+    ensures { FileIsOneSchema }
 {}

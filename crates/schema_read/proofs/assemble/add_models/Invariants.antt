@@ -1,8 +1,8 @@
 -- What the draft has, before what is left to add.
-use Rattle.std.proofs.Common.{◌≡◌, ◌≤◌, ◌++◌, length, map, Some}
+use Rattle.std.proofs.Common.{◌≡◌, ◌≤◌, ◌++◌, length, map, Some, All}
 use Rattle.std.specs.Vec.Iter.{into_iter_items}
-use Rattle.schema_read.specs.Types.{own_shapes}
-use Rattle.schema_read.specs.Assembly.{AreModels}
+use Rattle.schema_read.specs.Types.{own_shapes, models_from}
+use Rattle.schema_read.specs.Assembly.{IsModelOf}
 use Rattle.schema_read.proofs.assemble.add_models.Given as goal
 
 abbrev pub invariant-loop-model : goal.invariant-loop-model
@@ -11,8 +11,9 @@ invariant-loop-model l =
     let first = l.initial in
     record {
       room : length first.draft.shapes ≤ length l.draft.shapes;
-      known : AreModels (length first.draft.shapes) (length l.draft.shapes) left;
+      known : All (IsModelOf (length first.draft.shapes)) left;
       shapes : l.draft.shapes ++ map Some (own_shapes (length l.draft.models) left)
-          ≡ first.draft.shapes ++ map Some (own_shapes (length first.draft.models) l.fn.models.items);
-      models : l.draft.models ++ left ≡ first.draft.models ++ l.fn.models.items;
+          ≡ first.draft.shapes ++ map Some (own_shapes (length first.draft.models) l.fn.models);
+      models : l.draft.models ++ models_from (length l.draft.shapes) left
+          ≡ first.draft.models ++ models_from (length first.draft.shapes) l.fn.models;
     }
