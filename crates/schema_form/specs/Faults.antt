@@ -69,6 +69,10 @@ texts_faults earlier i no_parts = []
 texts_faults earlier i (part (text s) ps) = under (decimal i) (unless (not (is_among earlier s)) Twice) ++ texts_faults (s ∷ earlier) (i + 1) ps
 texts_faults earlier i (part v ps) = under (decimal i) (here Shape) ++ texts_faults earlier (i + 1) ps
 
+abbrev pub enumeration_faults : Value → List Fault
+enumeration_faults (list a (part t ps)) = texts_faults [] 0 (part t ps)
+enumeration_faults _ = here Shape
+
 -- a text that must be the name of one of the types
 abbrev pub name_faults : Fields → Value → List Fault
 name_faults types (text s) = unless (has_key s types) Name
@@ -110,6 +114,11 @@ abbrev pub conditions_faults : Option Base → Value → List Fault
 conditions_faults base (dict a ms) = member_faults (condition_faults base) ms
 conditions_faults base _ = here Shape
 
+-- a refinement has a base and conditions
+abbrev pub refinement_faults : Fields → Value → List Fault
+refinement_faults types (list a (part t (part cs no_parts))) = under (codes "0") (base_faults types t) ++ under (codes "1") (conditions_faults (base_in types t) cs)
+refinement_faults types _ = here Shape
+
 -- the faults of some items, from this index on
 abbrev pub numbered : ℕ → List (List Fault) → List Fault
 numbered i [] = []
@@ -119,11 +128,10 @@ numbered i (f ∷ fs) = under (decimal i) f ++ numbered (i + 1) fs
 abbrev pub form_faults : Fields → Form → Value → List Fault → List (List Fault) → List Fault
 form_faults types (form.Holder h) v inner items = inner
 form_faults types form.Literal v inner items = literal_faults v
-form_faults types form.Enumeration (list a (part t ps)) inner items = texts_faults [] 0 (part t ps)
+form_faults types form.Enumeration v inner items = enumeration_faults v
 form_faults types form.Optional (list a (part t (part d no_parts))) inner (one ∷ rest) = under (codes "0") one ++ under (codes "1") (number_faults d)
 form_faults types form.Union (list a (part t (part u ps))) inner items = numbered 0 items
-form_faults types form.Refinement (list a (part t (part cs no_parts))) inner items =
-    under (codes "0") (base_faults types t) ++ under (codes "1") (conditions_faults (base_in types t) cs)
+form_faults types form.Refinement v inner items = refinement_faults types v
 form_faults types form.Reference v inner items = name_faults types v
 form_faults types form.SafeReference v inner items = name_faults types v
 form_faults types _ v inner items = here Shape

@@ -9,6 +9,7 @@ use Rattle.schema_form.specs.declared.form.Entry.{Entry}
 use Rattle.schema_form.specs.declared.form.EntryNo.{EntryNo}
 use Rattle.schema_form.specs.declared.form.ModelForm.{ModelForm}
 use Rattle.schema_form.specs.declared.form.Expression.{Expression}
+use Rattle.schema_form.specs.declared.form.Word.TheVariants as word
 use Rattle.schema_form.specs.declared.form.Kind.{Kind}
 use Rattle.schema_form.specs.declared.form.Kind.TheVariants as kind
 use Rattle.schema_form.specs.Faults.{file_faults, entries, types_of}
@@ -39,7 +40,7 @@ pub record IsForm (file : Value) (form : SchemaForm) : Type 0 where
 
 -- the types, the entry and the model that an expression speaks of are there, and values in it are plain
 abbrev pub IsKindIn : SchemaForm → Kind → Type 0
-IsKindIn form (kind.Named e) = e.0 < length form.entries
+IsKindIn form (kind.Word (word.Named e)) = e.0 < length form.entries
 IsKindIn form (kind.Reference e) = e.0 < length form.entries
 IsKindIn form (kind.SafeReference e) = e.0 < length form.entries
 IsKindIn form (kind.Literal l) = IsPlain (view l)
@@ -58,7 +59,7 @@ pub record IsModelIn (form : SchemaForm) (model : ModelForm) : Type 0 where
 -- all numbers in a form name what is there, and names stand in order
 pub record IsWhole (form : SchemaForm) : Type 0 where
   pub kinds : (n : ℕ) (e : Expression) → slice_get form.expressions n ≡ Some e → IsKindIn form e.kind
-  pub places : ArePlaces form.entries (places_of form.expressions)
+  pub places : ArePlaces form.entries form.models (places_of form.expressions)
   pub models : (n : ℕ) (model : ModelForm) → slice_get form.models n ≡ Some model → IsModelIn form model
   pub typed : All (λ (e : Entry). e.of.0 < length form.expressions) form.entries
   pub named : AreAscending (map (λ (e : Entry). e.name) form.entries)

@@ -21,7 +21,7 @@ use Rattle.schema_form.specs.declared.words.Form.{Form}
 use Rattle.schema_form.specs.declared.words.Form.TheVariants as form
 use Rattle.schema_form.specs.declared.bases.Base.{Base}
 use Rattle.schema_form.specs.Words.{form_of}
-use Rattle.schema_form.specs.Names.{entry_of, word_kind}
+use Rattle.schema_form.specs.Names.{entry_of, word_of}
 use Rattle.schema_form.specs.Faults.{base_in, condition_of, model_in, entries}
 
 abbrev pub type_no : ℕ → TypeNo
@@ -83,21 +83,29 @@ members_laid u i (l ∷ ls) n =
     let first = l n (place.Part (type_no u) (step.Member i)) in
     first ++ members_laid u (i + 1) ls (n + length first)
 
--- the parts of an object with one key, by the form of the key: its value's layout and those of its value's items are given
-abbrev pub parts_laid : Form → Layout → List Layout → ℕ → List Expression
-parts_laid (form.Holder h) inner items n = inner (n + 1) (place.Part (type_no n) (step.Held h))
-parts_laid form.Optional inner (one ∷ rest) n = one (n + 1) (place.Part (type_no n) step.Defaulted)
-parts_laid form.Refinement inner (one ∷ rest) n = one (n + 1) (place.Part (type_no n) step.Refined)
-parts_laid form.Union inner items n = members_laid n 0 items (n + 1)
-parts_laid _ inner items n = []
-
 -- one expression at a place, if it says something
 abbrev pub said : Place → Option Kind → List Expression
-said at k = one_of (option_map (λ k. record { place = at; kind = k }) k)
+said at what = one_of (option_map (λ k. record { place = at; kind = k }) what)
+
+abbrev pub word_kind : Fields → List ℕ → Option Kind
+word_kind types s = option_map kind.Word (word_of types s)
+
+-- the base of a refinement, which is a text
+abbrev pub base_laid : Fields → Value → ℕ → List Expression
+base_laid types (list a (part (text s) ps)) n = said (place.Part (type_no n) step.Refined) (word_kind types s)
+base_laid types _ n = []
+
+-- the parts of an object with one key, by the form of the key: its value's layout and those of its value's items are given
+abbrev pub parts_laid : Fields → Form → Value → Layout → List Layout → ℕ → List Expression
+parts_laid types (form.Holder h) v inner items n = inner (n + 1) (place.Part (type_no n) (step.Held h))
+parts_laid types form.Optional v inner (one ∷ rest) n = one (n + 1) (place.Part (type_no n) step.Defaulted)
+parts_laid types form.Refinement v inner items n = base_laid types v n
+parts_laid types form.Union v inner items n = members_laid n 0 items (n + 1)
+parts_laid types _ v inner items n = []
 
 abbrev pub form_laid : Fields → Form → Value → Layout → List Layout → Layout
 form_laid types form v inner items n at =
-    said at (form_kind types form v (type_no (n + 1)) (member_numbers n 0 items (n + 1))) ++ parts_laid form inner items n
+    said at (form_kind types form v (type_no (n + 1)) (member_numbers n 0 items (n + 1))) ++ parts_laid types form v inner items n
 
 abbrev pub keyed_laid : Fields → Option Form → Value → Layout → List Layout → Layout
 keyed_laid types (Some form) v inner items n at = form_laid types form v inner items n at
@@ -122,17 +130,17 @@ abbrev mutual
 abbrev pub inside_laid : Fields → Form → Value → Layout
 inside_laid types form v n at = form_laid types form v (type_laid types v) (items_laid types v) n at
 
--- the properties of the model of number m, the first of which has number n
-abbrev pub properties_laid : Fields → ℕ → Fields → ℕ → List Expression
-properties_laid types m no_members n = []
-properties_laid types m (member k v ms) n =
-    let first = type_laid types v n (place.Property (type_no m) k) in
-    first ++ properties_laid types m ms (n + length first)
+-- the properties of the model of number m from index i on, the first of which has number n
+abbrev pub properties_laid : Fields → ModelNo → ℕ → Fields → ℕ → List Expression
+properties_laid types m i no_members n = []
+properties_laid types m i (member k v ms) n =
+    let first = type_laid types v n (place.Property m i) in
+    first ++ properties_laid types m (i + 1) ms (n + length first)
 
-abbrev pub properties_of : Fields → ℕ → Fields → ℕ → List Property
-properties_of types m no_members n = []
-properties_of types m (member k v ms) n =
-    record { name = k; of = type_no n } ∷ properties_of types m ms (n + length (type_laid types v n (place.Property (type_no m) k)))
+abbrev pub properties_of : Fields → ModelNo → ℕ → Fields → ℕ → List Property
+properties_of types m i no_members n = []
+properties_of types m i (member k v ms) n =
+    record { name = k; of = type_no n } ∷ properties_of types m (i + 1) ms (n + length (type_laid types v n (place.Property m i)))
 
 -- the properties of a model: the values of an object by their names
 abbrev pub properties_in : Value → Fields
@@ -148,12 +156,12 @@ pub record Gathered : Type 0 where
 -- an entry that is a model, and one that isn't
 abbrev pub with_model : Fields → Gathered → List ℕ → Fields → Gathered
 with_model types g k ps =
-    let n = length g.expressions in record {
+    let n = length g.expressions in
+    let m : ModelNo = record { 0 = length g.models } in record {
       entries = g.entries ++ record { name = k; of = type_no n } ∷ [];
       expressions = g.expressions
-          ++ record { place = place.Entry (record { 0 = length g.entries }); kind = kind.Model (record { 0 = length g.models }) }
-          ∷ properties_laid types n ps (n + 1);
-      models = g.models ++ record { name = k; properties = properties_of types n ps (n + 1) } ∷ [];
+          ++ record { place = place.Entry (record { 0 = length g.entries }); kind = kind.Model m } ∷ properties_laid types m 0 ps (n + 1);
+      models = g.models ++ record { name = k; properties = properties_of types m 0 ps (n + 1) } ∷ [];
     }
 
 abbrev pub with_type : Fields → Gathered → List ℕ → Value → Gathered

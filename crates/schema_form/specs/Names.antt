@@ -6,8 +6,8 @@ use Rattle.snap_core.specs.Value.{Value, text, no_members, member, value_at, Fie
 use Rattle.schema_form.specs.declared.form.EntryNo.{EntryNo}
 use Rattle.schema_form.specs.declared.form.Plain.{Plain}
 use Rattle.schema_form.specs.declared.form.Plain.TheVariants as plain
-use Rattle.schema_form.specs.declared.form.Kind.{Kind}
-use Rattle.schema_form.specs.declared.form.Kind.TheVariants as kind
+use Rattle.schema_form.specs.declared.form.Word.{Word}
+use Rattle.schema_form.specs.declared.form.Word.TheVariants as word
 use Rattle.schema_form.specs.declared.bases.Base.{Base}
 use Rattle.schema_form.specs.declared.bases.Base.TheVariants as base
 use Rattle.schema_form.specs.Words.{plain_of}
@@ -24,15 +24,13 @@ entry_from n (member k v ms) name = if bytes_eq name k then Some (record { 0 = n
 abbrev pub entry_of : Fields → List ℕ → Option EntryNo
 entry_of types name = entry_from 0 types name
 
--- what a word stands for: a plain type, or the entry of that name
-abbrev pub named : Option EntryNo → Option Kind
-named entry = option_map kind.Named entry
+-- what a text stands for: a plain type, or the entry of that name
+abbrev pub plain_or : Option Plain → Option EntryNo → Option Word
+plain_or (Some p) entry = Some (word.Plain p)
+plain_or None entry = option_map word.Named entry
 
-abbrev pub word_kind : Fields → List ℕ → Option Kind
-word_kind types word = by_plain (plain_of word) where
-  by_plain : Option Plain → Option Kind
-  by_plain (Some p) = Some (kind.Plain p)
-  by_plain None = named (entry_of types word)
+abbrev pub word_of : Fields → List ℕ → Option Word
+word_of types s = plain_or (plain_of s) (entry_of types s)
 
 -- the plain types that may be refined
 abbrev pub plain_base : Plain → Option Base
@@ -57,4 +55,4 @@ most_names = 2 ^ 64
 
 -- the base that a text stands for, names followed; None for any other type, and where names lead in a circle
 abbrev pub base_of : Fields → List ℕ → Option Base
-base_of types word = word_base (plain_of word) (base_within types most_names (value_at word types))
+base_of types s = word_base (plain_of s) (base_within types most_names (value_at s types))

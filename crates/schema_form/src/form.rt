@@ -47,12 +47,12 @@ pub struct Expression {
 }
 
 /// Where a type expression stands.
-#[derive(Debug, Drop)]
+#[derive(Clone, Copy, Debug, PartialEq, Eq)]
 pub enum Place {
     /// As an entry of the types.
     Entry(EntryNo),
-    /// As the property of this name of the model whose type expression has this number.
-    Property(TypeNo, Name),
+    /// As the property of a model at this index.
+    Property(ModelNo, usize),
     /// Inside the type expression of this number.
     Part(TypeNo, Step),
 }
@@ -73,9 +73,7 @@ pub enum Step {
 /// What a type expression says.
 #[derive(Debug, Drop)]
 pub enum Kind {
-    Plain(Plain),
-    /// The name of an entry.
-    Named(EntryNo),
+    Word(Word),
     /// A scalar.
     Literal(Snap),
     /// Texts, none of which stands twice.
@@ -91,6 +89,14 @@ pub enum Kind {
     Reference(EntryNo),
     SafeReference(EntryNo),
     Model(ModelNo),
+}
+
+/// What a text stands for as a type.
+#[derive(Clone, Copy, Debug, PartialEq, Eq)]
+pub enum Word {
+    Plain(Plain),
+    /// The name of an entry.
+    Named(EntryNo),
 }
 
 /// The types that a word of their own stands for.

@@ -11,6 +11,7 @@ mod words;
 pub use fault::{Fault, FormError};
 pub use file::read_form;
 pub use form::{
-    Entry, EntryNo, Expression, Expressions, Holder, Kind, ModelForm, Place, Plain, SchemaForm, Step,
+    Entry, EntryNo, Expression, Expressions, Holder, Kind, ModelForm, Place, Plain, SchemaForm,
+    Step, Word,
 };
 pub use pointer::{Laid, pointer_to, taken_apart};
