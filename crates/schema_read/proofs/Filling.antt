@@ -1,5 +1,5 @@
 -- A draft gets its models, and its types their shapes, last one first.
-use Rattle.std.proofs.Common.{◌≡◌, ◌≤◌, ◌+◌, ℕ, zero, suc, List, [], ◌∷◌, ◌++◌, length, map, take, drop, replicate, slice_set, Option, Some, None, All, refl, sym, ap, ◌∙◌, subst, append_assoc, arith, length-append}
+use Rattle.std.proofs.Common.{◌≡◌, ◌≤◌, ◌+◌, ℕ, zero, suc, ◌<◌, List, [], ◌∷◌, ◌++◌, length, map, get_or, take, drop, replicate, slice_set, Option, Some, None, All, refl, sym, ap, ◌∙◌, subst, append_assoc, arith, length-append, drop-cons}
 use Rattle.std.specs.Prelude.{IsSome}
 use Rattle.std.proofs.lemmas.List.{map-append}
 use Rattle.std.proofs.lemmas.List.Elements.{All-tail}
@@ -44,6 +44,12 @@ pub All-IsSome : {X : Type 0} (xs : List X) → All IsSome (map Some xs)
 All-IsSome [] k d h = absurd (omega arith)
 All-IsSome (x ∷ xs) zero d h = refl
 All-IsSome (x ∷ xs) (suc k) d h = All-IsSome xs k d (omega arith)
+
+-- what is left begins with the next one
+pub drop-next : {X : Type 0} (xs : List X) (i : ℕ) (x : X) → i < length xs → x ≡ get_or xs i x → drop i xs ≡ x ∷ drop (i + 1) xs
+drop-next xs i x lt is =
+    let next : suc i ≡ i + 1 = omega arith in
+    drop-cons xs i x lt ∙ ap (λ y. y ∷ drop (suc i) xs) (sym is) ∙ ap (λ n. x ∷ drop n xs) next
 
 -- one model more
 pub add_step : (count : ℕ) (old new : Plan) (model : ModelForm) (m : ModelNo) (left rest : List ModelForm) → left ≡ model ∷ rest

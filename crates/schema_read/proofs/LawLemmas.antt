@@ -32,7 +32,7 @@ one_of_form form _ _ (at_root none) (at_type root t path rule is fault pointer) 
 one_of_form form _ _ (at_type root t path rule is fault pointer) (at_root none) = let some : Some root ≡ None = sym is ∙ none in cc
 one_of_form form _ _ (at_type root t path rule is fault pointer) (at_type base u way other was wrong there) =
     let once = one_fault (table_of form) t u rule other fault wrong in
-    let paths : path ≡ way = one_pointer form.entries (places_of form.expressions) t u path way once.0 pointer there in
+    let paths : path ≡ way = one_pointer form.entries form.models (places_of form.expressions) t u path way once.0 pointer there in
     ap (λ (p : Path). record { path = p; rule = rule }) paths ∙ ap (λ (r : SchemaRule). record { path = way; rule = r }) once.1
 
 -- a file without a fault has no first one

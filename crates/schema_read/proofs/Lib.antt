@@ -1,6 +1,6 @@
 pub mod Faulty
 pub mod Filling
-pub mod Kinds
+pub mod Growing
 pub mod LawLemmas
 pub mod Single
 pub mod Whole

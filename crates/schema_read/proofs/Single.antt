@@ -1,12 +1,14 @@
 -- What is one at most: the form of a file, the pointer of an expression, and the first fault of a table.
-use Rattle.std.proofs.Common.{◌≡◌, inl, inr, ℕ, zero, suc, ◌<◌, List, [], ◌∷◌, ◌++◌, codes, slice_get, Some, refl, sym, ◌∙◌, ap, subst, arith}
+use Rattle.std.proofs.Common.{◌≡◌, inl, inr, ℕ, zero, suc, ◌<◌, List, [], ◌++◌, slice_get, Some, refl, sym, ◌∙◌, ap, subst, arith}
 use Rattle.std.proofs.lemmas.Bool.{cases_lt}
 use Rattle.std.proofs.lemmas.Option.{same_Some}
 use Rattle.snap_core.specs.Value.{Value}
 use Rattle.snap_core.specs.declared.number.TypeNo.{TypeNo}
+use Rattle.snap_core.specs.declared.number.ModelNo.{ModelNo}
 use Rattle.pointer_core.specs.Path.{Path}
 use Rattle.pointer_core.specs.declared.schema_rule.SchemaRule.{SchemaRule}
 use Rattle.pointer_core.specs.declared.schema_rule.SchemaRule.TheVariants as rule
+use Rattle.type_core.specs.declared.shape.Property.{Property}
 use Rattle.type_core.specs.Table.{Table}
 use Rattle.type_core.specs.Faults.{HasFault, name, union, «default», pass_of, order_of, Precedes, IsFirstFault}
 use Rattle.schema_form.specs.declared.form.SchemaForm.{SchemaForm}
@@ -14,11 +16,10 @@ use Rattle.schema_form.specs.declared.form.Entry.{Entry}
 use Rattle.schema_form.specs.declared.form.EntryNo.{EntryNo}
 use Rattle.schema_form.specs.declared.form.Expression.{Expression}
 use Rattle.schema_form.specs.declared.form.ModelForm.{ModelForm}
-use Rattle.schema_form.specs.declared.form.Step.{Step}
 use Rattle.schema_form.specs.declared.form.Place.{Place}
 use Rattle.schema_form.specs.declared.form.Place.TheVariants as place
 use Rattle.schema_form.specs.Layout.{Gathered}
-use Rattle.schema_form.specs.Pointers.{IsPointer, entry, property, part, step_path, property_path}
+use Rattle.schema_form.specs.Pointers.{IsPointer, entry, property, part, entry_path, step_path, property_path}
 use Rattle.schema_form.specs.Form.{IsForm}
 
 -- a file has one form
@@ -40,35 +41,38 @@ one_form file f g x y =
     abbrev form_of : List Entry → List Expression → List ModelForm → EntryNo → ℕ → SchemaForm
     form_of entries expressions models root history = record { entries = entries; expressions = expressions; models = models; root = root; history = history }
 
-module _ (entries : List Entry) (places : List Place) where
+module _ (entries : List Entry) (models : List ModelForm) (places : List Place) where
   one_place : (t u : ℕ) → t ≡ u → (p q : Place) → slice_get places t ≡ Some p → slice_get places u ≡ Some q → p ≡ q
   one_place t u e p q at there = same_Some p q (sym at ∙ subst (λ n. slice_get places n ≡ Some q) (sym e) there)
 
   -- an expression has one pointer
-  pub one_pointer : (t u : ℕ) (p q : Path) → t ≡ u → IsPointer entries places t p → IsPointer entries places u q → p ≡ q
+  pub one_pointer : (t u : ℕ) (p q : Path) → t ≡ u → IsPointer entries models places t p → IsPointer entries models places u q → p ≡ q
   one_pointer _ _ _ _ e (entry t x one at is) (entry u y other there was) =
       let same : place.Entry x ≡ place.Entry y = one_place t u e (place.Entry x) (place.Entry y) at there in
       let numbers : x ≡ y = cc in
       let ones : one ≡ other = same_Some one other (sym is ∙ subst (λ (n : EntryNo). slice_get entries n.0 ≡ Some other) (sym numbers) was) in
-      ap (λ (o : Entry). codes "types" ∷ o.name ∷ []) ones
-  one_pointer _ _ _ _ e (entry t x one at is) (property u w name path there on) =
-      let same : place.Entry x ≡ place.Property w name = one_place t u e (place.Entry x) (place.Property w name) at there in cc
+      ap (λ (o : Entry). entry_path o.name) ones
+  one_pointer _ _ _ _ e (entry t x one at is) (property u n j model p there was stands) =
+      let same : place.Entry x ≡ place.Property n j = one_place t u e (place.Entry x) (place.Property n j) at there in cc
   one_pointer _ _ _ _ e (entry t x one at is) (part u w step path there on) =
       let same : place.Entry x ≡ place.Part w step = one_place t u e (place.Entry x) (place.Part w step) at there in cc
-  one_pointer _ _ _ _ e (property t v name path at up) (entry u y other there was) =
-      let same : place.Property v name ≡ place.Entry y = one_place t u e (place.Property v name) (place.Entry y) at there in cc
-  one_pointer _ _ _ _ e (property t v name path at up) (property u w other way there on) =
-      let same : place.Property v name ≡ place.Property w other = one_place t u e (place.Property v name) (place.Property w other) at there in
-      let wholes : v ≡ w = cc in
-      let names : name ≡ other = cc in
-      let paths : path ≡ way = one_pointer v.0 w.0 path way (ap (λ (n : TypeNo). n.0) wholes) up on in
-      ap (λ p. p ++ property_path name) paths ∙ ap (λ n. way ++ property_path n) names
-  one_pointer _ _ _ _ e (property t v name path at up) (part u w step way there on) =
-      let same : place.Property v name ≡ place.Part w step = one_place t u e (place.Property v name) (place.Part w step) at there in cc
+  one_pointer _ _ _ _ e (property t m i model p at is stands) (entry u y other there was) =
+      let same : place.Property m i ≡ place.Entry y = one_place t u e (place.Property m i) (place.Entry y) at there in cc
+  one_pointer _ _ _ _ e (property t m i model p at is stands) (property u n j other q there was lies) =
+      let same : place.Property m i ≡ place.Property n j = one_place t u e (place.Property m i) (place.Property n j) at there in
+      let numbers : m ≡ n = cc in
+      let indices : i ≡ j = cc in
+      let ones : model ≡ other = same_Some model other (sym is ∙ subst (λ (k : ModelNo). slice_get models k.0 ≡ Some other) (sym numbers) was) in
+      let theirs : slice_get model.properties i ≡ Some q = subst (λ k. slice_get model.properties k ≡ Some q) (sym indices)
+      (subst (λ (o : ModelForm). slice_get o.properties j ≡ Some q) (sym ones) lies) in
+      let properties : p ≡ q = same_Some p q (sym stands ∙ theirs) in
+      ap (λ (o : ModelForm). entry_path o.name ++ property_path p.name) ones ∙ ap (λ (r : Property). entry_path other.name ++ property_path r.name) properties
+  one_pointer _ _ _ _ e (property t m i model p at is stands) (part u w step way there on) =
+      let same : place.Property m i ≡ place.Part w step = one_place t u e (place.Property m i) (place.Part w step) at there in cc
   one_pointer _ _ _ _ e (part t v step path at up) (entry u y other there was) =
       let same : place.Part v step ≡ place.Entry y = one_place t u e (place.Part v step) (place.Entry y) at there in cc
-  one_pointer _ _ _ _ e (part t v step path at up) (property u w name way there on) =
-      let same : place.Part v step ≡ place.Property w name = one_place t u e (place.Part v step) (place.Property w name) at there in cc
+  one_pointer _ _ _ _ e (part t v step path at up) (property u n j model p there was stands) =
+      let same : place.Part v step ≡ place.Property n j = one_place t u e (place.Part v step) (place.Property n j) at there in cc
   one_pointer _ _ _ _ e (part t v step path at up) (part u w other way there on) =
       let same : place.Part v step ≡ place.Part w other = one_place t u e (place.Part v step) (place.Part w other) at there in
       let wholes : v ≡ w = cc in

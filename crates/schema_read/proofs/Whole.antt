@@ -14,6 +14,7 @@ use Rattle.schema_form.specs.declared.form.Entry.{Entry}
 use Rattle.schema_form.specs.declared.form.EntryNo.{EntryNo}
 use Rattle.schema_form.specs.declared.form.Expression.{Expression}
 use Rattle.schema_form.specs.declared.form.ModelForm.{ModelForm}
+use Rattle.schema_form.specs.declared.form.Word.TheVariants as word
 use Rattle.schema_form.specs.declared.form.Plain.{Plain}
 use Rattle.schema_form.specs.declared.form.Plain.TheVariants.{Text}
 use Rattle.schema_form.specs.declared.form.Holder.{Holder}
@@ -80,8 +81,8 @@ module _ (form : SchemaForm) (whole : IsWhole form) where
   within u h = omega (arith, h, long)
 
   shape_known : (k : Kind) → IsKindIn form k → IsShapeOf (plan_of (table_of form)) (shape_of form.entries k)
-  shape_known (kind.Plain plain) h = plain_known (plan_of (table_of form)) plain
-  shape_known (kind.Named e) h =
+  shape_known (kind.Word (word.Plain plain)) h = plain_known (plan_of (table_of form)) plain
+  shape_known (kind.Word (word.Named e)) h =
       let p : Plan = plan_of (table_of form) in
       let u : TypeNo = type_of form.entries e in
       made_of p (shape.Named u) tt (one_below (length p.shapes) u (type_of-below e h)) (none_below (length p.shapes)) tt
@@ -117,17 +118,17 @@ module _ (form : SchemaForm) (whole : IsWhole form) where
       (none_below (length p.shapes)) (none_below (length p.shapes)) tt
 
   entry_known : (k : Kind) → IsKindIn form k → NamesEntry (length form.entries) k
-  entry_known (kind.Named e) h = h
+  entry_known (kind.Word (word.Named e)) h = h
   entry_known (kind.Reference e) h = h
   entry_known (kind.SafeReference e) h = h
   entry_known _ h = tt
 
   pub AreWhole-form : AreWhole form.entries (kinds_of form.expressions) form.models
   AreWhole-form = record {
-    kinds = All-map (λ (e : Expression). e.kind) (IsKindOf form.entries (plan_of (table_of form))) form.expressions
+    shapes = All-map (λ (e : Expression). e.kind) (IsKindOf form.entries (plan_of (table_of form))) form.expressions
         (All-at (λ (e : Expression). IsKindOf form.entries (plan_of (table_of form)) e.kind) form.expressions
         (λ n e at. record { entry = entry_known e.kind (whole.kinds n e at); shape = shape_known e.kind (whole.kinds n e at) }));
-    models = All-at (IsModelOf (length (kinds_of form.expressions))) form.models
+    known = All-at (IsModelOf (length (kinds_of form.expressions))) form.models
         (λ n m at. record {
           named = (whole.models n m at).named;
           typed = let P : ℕ → Type 0 = λ count. AreTyped count m.properties in

@@ -3,13 +3,14 @@ use Rattle.std.specs.Prelude.{ℕ, ◌<◌, List, length, All}
 use Rattle.schema_form.specs.declared.form.Entry.{Entry}
 use Rattle.schema_form.specs.declared.form.ModelForm.{ModelForm}
 use Rattle.schema_form.specs.declared.form.Kind.{Kind}
-use Rattle.schema_form.specs.declared.form.Kind.TheVariants.{Named, Reference, SafeReference}
+use Rattle.schema_form.specs.declared.form.Kind.TheVariants.{Word, Reference, SafeReference}
+use Rattle.schema_form.specs.declared.form.Word.TheVariants.{Named}
 use Rattle.type_core.specs.Table.{Plan, AreNamed, AreTyped, IsShapeOf, plan_of}
 use Rattle.schema_read.specs.Types.{shape_of, put_together}
 
 -- the entry that an expression names is one of so many
 abbrev pub NamesEntry : ℕ → Kind → Type 0
-NamesEntry count (Named e) = e.0 < count
+NamesEntry count (Word (Named e)) = e.0 < count
 NamesEntry count (Reference e) = e.0 < count
 NamesEntry count (SafeReference e) = e.0 < count
 NamesEntry count _ = Unit {0}
@@ -26,5 +27,5 @@ pub record IsModelOf (count : ℕ) (model : ModelForm) : Type 0 where
 
 -- the expressions and the models stand for shapes and models of the plan that they are put into
 pub record AreWhole (entries : List Entry) (kinds : List Kind) (models : List ModelForm) : Type 0 where
-  pub kinds : All (IsKindOf entries (plan_of (put_together entries kinds models))) kinds
-  pub models : All (IsModelOf (length kinds)) models
+  pub shapes : All (IsKindOf entries (plan_of (put_together entries kinds models))) kinds
+  pub known : All (IsModelOf (length kinds)) models

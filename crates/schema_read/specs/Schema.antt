@@ -28,7 +28,7 @@ pub record Means (form : SchemaForm) (schema : Schema) : Type 0 where
 pub data IsFirstOf (form : SchemaForm) : Fault → Type 0 where
   at_root : root_of form ≡ None → IsFirstOf form (record { path = codes "root" ∷ []; rule = Target })
   at_type : (root : ModelNo) (t : ℕ) (path : Path) (rule : SchemaRule) → root_of form ≡ Some root → IsFirstFault (table_of form) t rule
-      → IsPointer form.entries (places_of form.expressions) t path → IsFirstOf form (record { path = path; rule = rule })
+      → IsPointer form.entries form.models (places_of form.expressions) t path → IsFirstOf form (record { path = path; rule = rule })
 
 -- A file is this schema: it has no fault in form, names, repetitions and the length of the history, and its form means the schema.
 pub record IsSchema (file : Value) (schema : Schema) : Type 0 where

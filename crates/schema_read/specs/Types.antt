@@ -11,6 +11,8 @@ use Rattle.schema_form.specs.declared.form.Entry.{Entry}
 use Rattle.schema_form.specs.declared.form.EntryNo.{EntryNo}
 use Rattle.schema_form.specs.declared.form.Expression.{Expression}
 use Rattle.schema_form.specs.declared.form.ModelForm.{ModelForm}
+use Rattle.schema_form.specs.declared.form.Word.{Word}
+use Rattle.schema_form.specs.declared.form.Word.TheVariants as word
 use Rattle.schema_form.specs.declared.form.Plain.{Plain}
 use Rattle.schema_form.specs.declared.form.Plain.TheVariants.{Text, Integer, Boolean, Null, Frozen, Identifier, IdentifierNumber}
 use Rattle.schema_form.specs.declared.form.Holder.{Holder}
@@ -25,7 +27,7 @@ type_no n = record { 0 = n }
 abbrev pub type_of : List Entry → EntryNo → TypeNo
 type_of entries e = type_no (slice_index (map (λ (one : Entry). one.of.0) entries) e.0)
 
--- what a word of its own stands for
+-- what a plain type is
 abbrev pub plain_shape : Plain → Shape
 plain_shape Text = shape.Str
 plain_shape Integer = shape.Integer
@@ -42,10 +44,14 @@ holder_shape MaybeNull u = shape.MaybeNull u
 holder_shape Array u = shape.Array u
 holder_shape Map u = shape.Map u
 
--- what a type expression stands for; a name and a reference stand for the type of the entry
+-- what a text stands for: a plain type, or the type of the entry that it names
+abbrev pub word_shape : List Entry → Word → Shape
+word_shape entries (word.Plain plain) = plain_shape plain
+word_shape entries (word.Named e) = shape.Named (type_of entries e)
+
+-- what a type expression stands for; a reference leads to the type of the entry that it names
 abbrev pub shape_of : List Entry → Kind → Shape
-shape_of entries (kind.Plain plain) = plain_shape plain
-shape_of entries (kind.Named e) = shape.Named (type_of entries e)
+shape_of entries (kind.Word w) = word_shape entries w
 shape_of entries (kind.Literal l) = shape.Literal l
 shape_of entries (kind.Enumeration texts) = shape.Enumeration texts
 shape_of entries (kind.Optional u d) = shape.Optional u d

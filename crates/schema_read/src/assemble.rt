@@ -10,20 +10,20 @@ use list_core::Parts;
 use schema_form::{Entry, Kind, ModelForm};
 use snap_core::TypeNo;
 use std::alloc::{AllocError, Global};
-use type_core::Draft;
+use type_core::{Draft, Properties, Property};
 
 /// A draft with a type for each expression and each model.
 pub fn draft_of(
     alloc: Global,
     entries: &[Entry],
+    models: &[ModelForm],
     kinds: Parts<Kind>,
-    models: Parts<ModelForm>,
 ) -> Result<Draft, AllocError>
-    requires { AreWhole entries.now kinds models }
-    ensures { IfOk result (λ draft. draft ≡ plan_of (put_together entries.now kinds models)) }
+    requires { AreWhole entries.now kinds models.now }
+    ensures { IfOk result (λ draft. draft ≡ plan_of (put_together entries.now kinds models.now)) }
 {
     let mut draft = begun(alloc, kinds.len())?;
-    add_models(&mut draft, models)?;
+    add_models(alloc, &mut draft, models)?;
     define_all(&mut draft, entries, kinds);
     Ok(draft)
 }
@@ -40,17 +40,31 @@ fn begun(alloc: Global, count: usize) -> Result<Draft, AllocError>
 }
 
 /// Adds models.
-fn add_models(draft: &mut Draft, models: Parts<ModelForm>) -> Result<(), AllocError>
-    requires { All (IsModelOf (length draft.old.shapes)) models }
-    ensures shapes { OnOk result
-        (draft.new.shapes ≡ draft.old.shapes ++ map Some (own_shapes (length draft.old.models) models)) }
+fn add_models(alloc: Global, draft: &mut Draft, models: &[ModelForm]) -> Result<(), AllocError>
+    requires { All (IsModelOf (length draft.old.shapes)) models.now }
+    ensures shapes { OnOk result (draft.new.shapes
+        ≡ draft.old.shapes ++ map Some (own_shapes (length draft.old.models) models.now)) }
     ensures models { OnOk result
-        (draft.new.models ≡ draft.old.models ++ models_from (length draft.old.shapes) models) }
+        (draft.new.models ≡ draft.old.models ++ models_from (length draft.old.shapes) models.now) }
 {
-    for model in models.into_vec() {
-        draft.model(model.name, model.properties)?;
+    for model in models {
+        let name = model.name.clone_in(alloc)?;
+        let properties = copied(alloc, model.properties.as_slice())?;
+        draft.model(name, properties)?;
     }
     Ok(())
+}
+
+/// A copy of properties: the form keeps its own, for the names in pointers.
+fn copied(alloc: Global, properties: &[Property]) -> Result<Properties, AllocError>
+    ensures { IfOk result (λ copy. copy ≡ properties.now) }
+{
+    let mut copy = Parts::new(alloc);
+    for property in properties {
+        let name = property.name.clone_in(alloc)?;
+        copy.push(Property { name, of: property.of })?;
+    }
+    Ok(copy)
 }
 
 /// Gives the draft's first types the shapes of expressions.

@@ -78,12 +78,18 @@ fn schema_of(alloc: Global, form: SchemaForm) -> Result<Schema, SchemaError>
             rule: SchemaRule::Target,
         });
     };
-    let draft = draft_of(alloc, entries.as_slice(), kinds, models)?;
+    let draft = draft_of(alloc, entries.as_slice(), models.as_slice(), kinds)?;
     match draft.finish(root) {
         Ok(types) => Ok(Schema::new(types, history)),
         Err(DraftError::Memory) => Err(SchemaError::Memory),
         Err(DraftError::Wrong { t, rule }) => Err(SchemaError::Refused {
-            pointer: pointer_to(alloc, entries.as_slice(), places.as_slice(), t)?,
+            pointer: pointer_to(
+                alloc,
+                entries.as_slice(),
+                models.as_slice(),
+                places.as_slice(),
+                t,
+            )?,
             rule,
         }),
     }

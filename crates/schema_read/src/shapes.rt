@@ -4,7 +4,7 @@ ghost use Rattle.std.specs.Option.{option_copied};
 ghost use Rattle.schema_read.specs.Assembly.{NamesEntry};
 ghost use Rattle.schema_read.specs.Types as types;
 
-use schema_form::{Entry, EntryNo, Holder, Kind, Plain};
+use schema_form::{Entry, EntryNo, Holder, Kind, Plain, Word};
 use snap_core::{ModelNo, TypeNo};
 use type_core::Shape;
 
@@ -14,8 +14,8 @@ pub fn shape_of(entries: &[Entry], kind: Kind) -> Shape
     ensures { result ≡ types.shape_of entries.now kind }
 {
     match kind {
-        Kind::Plain(plain) => plain_shape(plain),
-        Kind::Named(entry) => Shape::Named(type_of(entries, entry)),
+        Kind::Word(Word::Plain(plain)) => plain_shape(plain),
+        Kind::Word(Word::Named(entry)) => Shape::Named(type_of(entries, entry)),
         Kind::Literal(value) => Shape::Literal(value),
         Kind::Enumeration(texts) => Shape::Enumeration(texts),
         Kind::Optional(of, default) => Shape::Optional(of, default),
@@ -37,7 +37,7 @@ pub fn model_of(entries: &[Entry], kinds: &[Kind], entry: EntryNo) -> Option<Mod
 }
 
 fn model_in(kind: Option<&Kind>) -> Option<ModelNo>
-    ensures { result ≡ types.model_in (option_copied kind) }
+    ensures { result ≡ types.model_in (option_copied kind.entry) }
 {
     match kind {
         Some(Kind::Model(model)) => Some(*model),

@@ -5,7 +5,7 @@ use Rattle.type_core.proofs.Plans.{IsNoSmaller}
 use Rattle.schema_read.specs.Types.{shape_of}
 use Rattle.schema_read.specs.Assembly.{IsKindOf}
 use Rattle.schema_read.proofs.Filling.{define_step}
-use Rattle.schema_read.proofs.Kinds.{AreKindsOf-more}
+use Rattle.schema_read.proofs.Growing.{AreKindsOf-more}
 use Rattle.schema_read.proofs.assemble.define_all.Goals as goal
 
 pub loop-kind-preserved : goal.loop-kind-preserved
@@ -31,8 +31,8 @@ loop-kind-preserved c =
       models = models_are ∙ l.invariant.models;
     }
 
-pub shape_of-requires : goal.shape_of-requires
-shape_of-requires c =
+pub shape_of-requires-in-Some : goal.shape_of-requires-in-Some
+shape_of-requires-in-Some c =
     let l = c.loop-kind in
     (All-pop (IsKindOf c.args.entries.now l.draft) l.kinds c.pop.new.self (Some c.in-Some.kind) c.in-Some.ensures.some l.invariant.known).1.entry
 
