@@ -2,5 +2,6 @@ pub mod Faulty
 pub mod Filling
 pub mod Growing
 pub mod LawLemmas
+pub mod Refusals
 pub mod Single
 pub mod Whole

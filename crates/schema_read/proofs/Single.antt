@@ -22,6 +22,9 @@ use Rattle.schema_form.specs.Layout.{Gathered}
 use Rattle.schema_form.specs.Pointers.{IsPointer, entry, property, part, entry_path, step_path, property_path}
 use Rattle.schema_form.specs.Form.{IsForm}
 
+abbrev form_of : List Entry → List Expression → List ModelForm → EntryNo → ℕ → SchemaForm
+form_of entries expressions models root history = record { entries = entries; expressions = expressions; models = models; root = root; history = history }
+
 -- a file has one form
 pub one_form : (file : Value) (f g : SchemaForm) → IsForm file f → IsForm file g → f ≡ g
 one_form file f g x y =
@@ -37,9 +40,6 @@ one_form file f g x y =
     ∙ ap (λ ms. form_of g.entries g.expressions ms f.root f.history) models
     ∙ ap (λ r. form_of g.entries g.expressions g.models r f.history) roots
     ∙ ap (λ n. form_of g.entries g.expressions g.models g.root n) histories
-  where
-    abbrev form_of : List Entry → List Expression → List ModelForm → EntryNo → ℕ → SchemaForm
-    form_of entries expressions models root history = record { entries = entries; expressions = expressions; models = models; root = root; history = history }
 
 module _ (entries : List Entry) (models : List ModelForm) (places : List Place) where
   one_place : (t u : ℕ) → t ≡ u → (p q : Place) → slice_get places t ≡ Some p → slice_get places u ≡ Some q → p ≡ q

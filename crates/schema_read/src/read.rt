@@ -11,7 +11,7 @@ use crate::error::SchemaError;
 use crate::shapes::model_of;
 use expr_core::Schema;
 use pointer_core::{Pointer, SchemaRule};
-use schema_form::{FormError, Laid, SchemaForm, pointer_to, read_form, taken_apart};
+use schema_form::{Fault, FormError, Laid, SchemaForm, pointer_to, read_form, taken_apart};
 use snap_core::Snap;
 use snap_json::read_loosely;
 use std::alloc::Global;
@@ -49,10 +49,16 @@ fn schema_in(alloc: Global, file: &Snap) -> Result<Schema, SchemaError>
     match read_form(alloc, file) {
         Ok(form) => schema_of(alloc, form),
         Err(FormError::Memory) => Err(SchemaError::Memory),
-        Err(FormError::Wrong(fault)) => Err(SchemaError::Refused {
-            pointer: fault.path,
-            rule: fault.rule,
-        }),
+        Err(FormError::Wrong(fault)) => Err(refused(fault)),
+    }
+}
+
+fn refused(fault: Fault) -> SchemaError
+    ensures { result ≡ SchemaError.Refused fault.path fault.rule }
+{
+    SchemaError::Refused {
+        pointer: fault.path,
+        rule: fault.rule,
     }
 }
 
