@@ -1,4 +1,4 @@
--- A schema has no fault, and the first fault of bytes is one.
+-- A schema has no fault, and bytes have one first fault and are one schema at most.
 use Rattle.std.proofs.Common.{◌≡◌, ℕ, [], Option, Some, None, refl, sym, ◌∙◌, ap, subst}
 use Rattle.std.specs.Prelude.{IsSomeAnd}
 use Rattle.std.proofs.lemmas.Option.{same_Some}
@@ -7,6 +7,8 @@ use Rattle.snap_core.specs.declared.number.ModelNo.{ModelNo}
 use Rattle.pointer_core.specs.Path.{Path}
 use Rattle.pointer_core.specs.declared.schema_rule.SchemaRule.{SchemaRule}
 use Rattle.snap_json.specs.Loose.{loosely}
+use Rattle.type_core.specs.Table.{Catalog}
+use Rattle.type_core.specs.Sound.{TypesAreOne}
 use Rattle.type_core.specs.Faults.{HasFault}
 use Rattle.schema_form.specs.declared.form.SchemaForm.{SchemaForm}
 use Rattle.schema_form.specs.declared.fault.Fault.{Fault}
@@ -16,8 +18,11 @@ use Rattle.schema_form.specs.Pointers.{places_of}
 use Rattle.expr_core.specs.Schema.{Schema}
 use Rattle.schema_read.specs.Types.{table_of, root_of}
 use Rattle.schema_read.specs.Schema.{Means, IsFirstOf, at_root, at_type, IsSchema, IsFirst, in_file, in_form}
-use Rattle.schema_read.specs.Laws.{SchemaHasNoFault, FirstFaultIsOne}
+use Rattle.schema_read.specs.Laws.{SchemaHasNoFault, FirstFaultIsOne, FileIsOneSchema}
 use Rattle.schema_read.proofs.Single.{one_form, one_pointer, one_fault}
+
+abbrev schema_with : Catalog → ℕ → Schema
+schema_with types history = record { types = types; history = history }
 
 -- a form that means a schema has no fault
 no_fault : (form : SchemaForm) (schema : Schema) (fault : Fault) → Means form schema → IsFirstOf form fault → ⊥
@@ -51,6 +56,19 @@ one_in_file file f g (in_form form _ none read wrong) (in_file _ d) = absurd (no
 one_in_file file f g (in_form form _ none read wrong) (in_form other _ nothing was fault) =
     one_of_form other f g (subst (λ (a : SchemaForm). IsFirstOf a f) (one_form file form other read was) wrong) fault
 
+-- a form means one schema, as types are known by their table and their root
+one_schema : TypesAreOne → (form : SchemaForm) (one other : Schema) → Means form one → Means form other → one ≡ other
+one_schema law form one other x y =
+    let tables : one.types.table ≡ other.types.table = x.types ∙ sym y.types in
+    let roots : one.types.root ≡ other.types.root = same_Some one.types.root other.types.root (sym x.root ∙ y.root) in
+    let types : one.types ≡ other.types = law one.types other.types x.sound y.sound tables roots in
+    let histories : one.history ≡ other.history = x.history ∙ sym y.history in
+    ap (λ (t : Catalog). schema_with t one.history) types ∙ ap (λ n. schema_with other.types n) histories
+
+one_schema_in : TypesAreOne → (file : Value) (one other : Schema) → IsSchema file one → IsSchema file other → one ≡ other
+one_schema_in law file one other x y =
+    one_schema law y.form one other (subst (λ (f : SchemaForm). Means f one) (one_form file x.form y.form x.is y.is) x.means) y.means
+
 pub schema_has_no_fault : SchemaHasNoFault
 schema_has_no_fault bytes schema fault = by_reading (loosely bytes)
   where
@@ -64,3 +82,10 @@ first_fault_is_one bytes one other = by_reading (loosely bytes)
     by_reading : (o : Option Value) → IsSomeAnd o (λ v. IsFirst v one) → IsSomeAnd o (λ v. IsFirst v other) → one ≡ other
     by_reading None x y = absurd x
     by_reading (Some v) x y = one_in_file v one other x y
+
+pub file_is_one_schema : TypesAreOne → FileIsOneSchema
+file_is_one_schema law bytes one other = by_reading (loosely bytes)
+  where
+    by_reading : (o : Option Value) → IsSomeAnd o (λ v. IsSchema v one) → IsSomeAnd o (λ v. IsSchema v other) → one ≡ other
+    by_reading None x y = absurd x
+    by_reading (Some v) x y = one_schema_in law v one other x y

@@ -1,5 +1,6 @@
 -- What is one at most: the form of a file, the pointer of an expression, and the first fault of a table.
 use Rattle.std.proofs.Common.{◌≡◌, inl, inr, ℕ, zero, suc, ◌<◌, List, [], ◌++◌, slice_get, Some, refl, sym, ◌∙◌, ap, subst, arith}
+use Rattle.std.specs.Prelude.{pos}
 use Rattle.std.proofs.lemmas.Bool.{cases_lt}
 use Rattle.std.proofs.lemmas.Option.{same_Some}
 use Rattle.snap_core.specs.Value.{Value}
@@ -25,16 +26,21 @@ use Rattle.schema_form.specs.Form.{IsForm}
 abbrev form_of : List Entry → List Expression → List ModelForm → EntryNo → ℕ → SchemaForm
 form_of entries expressions models root history = record { entries = entries; expressions = expressions; models = models; root = root; history = history }
 
+abbrev gathered_of : SchemaForm → Gathered
+gathered_of form = record { entries = form.entries; expressions = form.expressions; models = form.models }
+
+same_length : (m n : ℕ) → pos m ≡ pos n → m ≡ n
+same_length m n e = cc
+
 -- a file has one form
 pub one_form : (file : Value) (f g : SchemaForm) → IsForm file f → IsForm file g → f ≡ g
 one_form file f g x y =
-    let same : record { entries = f.entries; expressions = f.expressions; models = f.models } ≡ record { entries = g.entries; expressions = g.expressions; models = g.models } =
-    sym x.types ∙ y.types in
+    let same : gathered_of f ≡ gathered_of g = sym x.types ∙ y.types in
     let entries : f.entries ≡ g.entries = ap (λ (a : Gathered). a.entries) same in
     let expressions : f.expressions ≡ g.expressions = ap (λ (a : Gathered). a.expressions) same in
     let models : f.models ≡ g.models = ap (λ (a : Gathered). a.models) same in
     let roots : f.root ≡ g.root = same_Some f.root g.root (sym x.root ∙ y.root) in
-    let histories : f.history ≡ g.history = cc (sym x.history ∙ y.history) in
+    let histories : f.history ≡ g.history = same_length f.history g.history (sym x.history ∙ y.history) in
     ap (λ es. form_of es f.expressions f.models f.root f.history) entries
     ∙ ap (λ es. form_of g.entries es f.models f.root f.history) expressions
     ∙ ap (λ ms. form_of g.entries g.expressions ms f.root f.history) models

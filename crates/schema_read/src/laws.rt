@@ -1,5 +1,7 @@
 ghost use Rattle.schema_read.specs.Laws.{SchemaHasNoFault, FirstFaultIsOne, FileIsOneSchema};
 
+use type_core::types_are_one;
+
 /// Bytes that are a schema have no fault.
 pub fn schema_has_no_fault()
     ensures { SchemaHasNoFault }
@@ -13,4 +15,6 @@ pub fn first_fault_is_one()
 /// Bytes are one schema at most.
 pub fn file_is_one_schema()
     ensures { FileIsOneSchema }
-{}
+{
+    types_are_one();
+}
