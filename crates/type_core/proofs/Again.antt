@@ -19,7 +19,7 @@ use Rattle.type_core.specs.declared.shape.Property.{Property}
 use Rattle.type_core.specs.Table.{Table, Catalog, shape_at, properties_of, plan_of, names_of, AreNamed, IsShapeOf}
 use Rattle.type_core.specs.Judging.{is_null}
 use Rattle.type_core.specs.Making.{Outcome, made_by, is_within, limited, making}
-use Rattle.type_core.specs.Makes.{IsMaybe, Makes, string, whole, truth, nothing, literal, enumeration, frozen, frozen_absent, optional, optional_absent, maybe_of_null, maybe_absent, maybe_other, union, refinement, array, array_absent, map, map_absent, model, name, MakesItems, no_items, one_item, MakesValues, no_values, one_value, MakesEach, no_more, one_more, MakesWithin}
+use Rattle.type_core.specs.Makes.{IsMaybe, Makes, string, whole, truth, nothing, literal, enumeration, identifier, identifier_number, reference, safe, safe_of_null, safe_absent, frozen, frozen_absent, optional, optional_absent, maybe_of_null, maybe_absent, maybe_other, union, refinement, array, array_absent, map, map_absent, model, name, MakesItems, no_items, one_item, MakesValues, no_values, one_value, MakesEach, no_more, one_more, MakesWithin}
 use Rattle.type_core.specs.Made.{Answers, value_of}
 use Rattle.type_core.specs.Sound.{IsSound}
 use Rattle.type_core.proofs.Sound.{AreNamed-properties_of, IsShapeOf-shape}
@@ -88,6 +88,12 @@ module _ (types : Catalog) (sound : IsSound types) where
     Makes-plain _ _ _ (nothing t e) plain = tt
     Makes-plain _ _ _ (literal t l v e same) plain = plain
     Makes-plain _ _ _ (enumeration t ts s e has) plain = tt
+    Makes-plain _ _ _ (identifier t s e) plain = tt
+    Makes-plain _ _ _ (identifier_number t z e) plain = plain
+    Makes-plain _ _ _ (reference t u v e key) plain = plain
+    Makes-plain _ _ _ (safe t u v e key) plain = plain
+    Makes-plain _ _ _ (safe_of_null t u e own) plain = tt
+    Makes-plain _ _ _ (safe_absent t u e own) plain = tt
     Makes-plain _ _ _ (frozen t v e) plain = plain
     Makes-plain _ _ _ (frozen_absent t e) plain = tt
     Makes-plain _ _ _ (optional t u d v s e made) plain = Makes-plain u.0 (Some v) s made plain
@@ -135,6 +141,12 @@ module _ (types : Catalog) (sound : IsSound types) where
     Makes-again _ _ _ (nothing t e) = nothing t e
     Makes-again _ _ _ (literal t l v e same) = literal t l v e same
     Makes-again _ _ _ (enumeration t ts s e has) = enumeration t ts s e has
+    Makes-again _ _ _ (identifier t s e) = identifier t s e
+    Makes-again _ _ _ (identifier_number t z e) = identifier_number t z e
+    Makes-again _ _ _ (reference t u v e key) = reference t u v e key
+    Makes-again _ _ _ (safe t u v e key) = safe t u v e key
+    Makes-again _ _ _ (safe_of_null t u e own) = safe_of_null t u e own
+    Makes-again _ _ _ (safe_absent t u e own) = safe_of_null t u e own
     Makes-again _ _ _ (frozen t v e) = frozen t v e
     Makes-again _ _ _ (frozen_absent t e) = frozen t null e
     Makes-again _ _ _ (optional t u d v s e made) = optional t u d s s e (Makes-again u.0 (Some v) s made)

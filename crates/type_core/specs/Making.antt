@@ -9,12 +9,13 @@ use Rattle.pointer_core.specs.Path.{Path}
 use Rattle.pointer_core.specs.declared.refusal.Rule.{Rule}
 use Rattle.pointer_core.specs.declared.refusal.Rule.TheVariants.{Mistyped, Refine, Large}
 use Rattle.type_core.specs.declared.shape.Shape.{Shape}
-use Rattle.type_core.specs.declared.shape.Shape.TheVariants.{Frozen, Optional, Maybe, MaybeNull, Refinement, Array, Map, Model}
+use Rattle.type_core.specs.declared.shape.Shape.TheVariants.{Frozen, Optional, Maybe, MaybeNull, Refinement, Array, Map, Model, Safe}
 use Rattle.type_core.specs.declared.shape.Condition.{Condition}
 use Rattle.type_core.specs.declared.shape.Condition.TheVariants.{Min, Max, MinLength, MaxLength, StartsWith}
 use Rattle.type_core.specs.declared.shape.Property.{Property}
 use Rattle.type_core.specs.Table.{Table, Catalog, shape_at, properties_of, default_at}
 use Rattle.type_core.specs.Names.{named_by}
+use Rattle.type_core.specs.Identifiers.{is_firm}
 use Rattle.type_core.specs.Unions.{takes}
 use Rattle.type_core.specs.Judging.{judged_by}
 
@@ -72,18 +73,19 @@ default_made (Some v) = Ok v
 default_made None = mistyped
 
 -- what a type that stands at this number itself makes where no value is given
-abbrev pub absent_made : List (Option Snap) → ℕ → Option Shape → Outcome Value
-absent_made defaults t (Some (Optional u d)) = default_made (default_at defaults t)
-absent_made defaults t (Some (Maybe u)) = Ok null
-absent_made defaults t (Some (MaybeNull u)) = Ok null
-absent_made defaults t (Some Frozen) = Ok null
-absent_made defaults t (Some (Array u)) = Ok (list tt no_parts)
-absent_made defaults t (Some (Map u)) = Ok (dict tt no_members)
-absent_made defaults t _ = mistyped
+abbrev pub absent_made : Table → List (Option Snap) → ℕ → Option Shape → Outcome Value
+absent_made table defaults t (Some (Optional u d)) = default_made (default_at defaults t)
+absent_made table defaults t (Some (Maybe u)) = Ok null
+absent_made table defaults t (Some (MaybeNull u)) = Ok null
+absent_made table defaults t (Some Frozen) = Ok null
+absent_made table defaults t (Some (Array u)) = Ok (list tt no_parts)
+absent_made table defaults t (Some (Map u)) = Ok (dict tt no_members)
+absent_made table defaults t (Some (Safe u)) = if is_firm table t then mistyped else Ok null
+absent_made table defaults t _ = mistyped
 
 -- what a type makes where no value is given, names followed
 abbrev pub absent : Table → List (Option Snap) → Maker
-absent table defaults t = absent_made defaults (named_by table t) (shape_at table (named_by table t))
+absent table defaults t = absent_made table defaults (named_by table t) (shape_at table (named_by table t))
 
 -- one item in front of those that follow, unless one of them is refused
 abbrev pub part_made : Outcome Value → Outcome Items → Outcome Items

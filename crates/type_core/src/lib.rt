@@ -3,8 +3,10 @@
 
 mod apart;
 mod defaults;
+mod doubling;
 mod draft;
 mod faults;
+mod identifiers;
 mod judging;
 mod leads;
 mod limits;
@@ -12,13 +14,16 @@ mod making;
 mod records;
 mod rule;
 mod scalars;
+mod seen;
 mod shape;
+mod standing;
 mod table;
 mod tagged;
 mod tags;
 mod types;
 mod unions;
 
+pub use doubling::doubled;
 pub use draft::Draft;
 pub use making::{MakeError, make};
 pub use rule::DraftError;

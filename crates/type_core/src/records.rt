@@ -1,8 +1,9 @@
 //! Making the parts of lists and records.
-ghost use Rattle.std.specs.Prelude.{◌≡◌, [], ◌∷◌, ◌++◌, OnOk, decimal};
-ghost use Rattle.snap_core.specs.Value.{Value, ArePlain, ArePlainMembers};
+ghost use Rattle.std.specs.Prelude.{◌≡◌, [], ◌∷◌, ◌++◌, Ok, OnOk, decimal, if◌then◌else◌};
+ghost use Rattle.snap_core.specs.Value.{Value, null, ArePlain, ArePlainMembers};
 ghost use Rattle.snap_core.specs.View.{view, items_view, fields_view};
 ghost use Rattle.type_core.specs.Table.{default_at};
+ghost use Rattle.type_core.specs.Identifiers.{is_firm};
 ghost use Rattle.type_core.specs.Making as specs;
 ghost use Rattle.type_core.specs.Making.{Outcome};
 ghost use Rattle.type_core.specs.Made.{Answers};
@@ -28,10 +29,21 @@ pub fn make_absent(
     match types.table().shape(t) {
         Some(Shape::Optional(_, _)) => copy_default(alloc, defaults, t),
         Some(Shape::Maybe(_) | Shape::MaybeNull(_) | Shape::Frozen) => Ok(Snap::Null),
+        Some(Shape::Safe(_)) => clear(alloc, types, t),
         Some(Shape::Array(_)) => Ok(Snap::List(Parts::new(alloc))),
         Some(Shape::Map(_)) => Ok(Snap::Dict(Parts::new(alloc))),
         _ => Err(refused(alloc, Rule::Mistyped)),
     }
+}
+
+/// null, where the safe reference `t` is a property's type.
+fn clear(alloc: Global, types: &Tagged, t: TypeNo) -> Result<Snap, MakeError>
+    ensures { Answers view result (if is_firm types.now t.0 then specs.mistyped else Ok null) }
+{
+    if types.is_firm(t) {
+        return Err(refused(alloc, Rule::Mistyped));
+    }
+    Ok(Snap::Null)
 }
 
 fn copy_default(alloc: Global, defaults: &[Option<Snap>], t: TypeNo) -> Result<Snap, MakeError>
