@@ -1,6 +1,6 @@
--- Only the types of expressions can be at fault: a model's own type leads nowhere, is no union and not optional.
-use Rattle.std.proofs.Common.{◌≡◌, ℕ, zero, suc, ◌+◌, ◌-◌, ◌<◌, ◌≤◌, List, [], ◌∷◌, ◌++◌, length, map, slice_get, Option, Some, None, sym, subst, refl, inl, inr, arith, ◌∙◌}
-use Rattle.std.specs.Prelude.{Contains}
+-- Only the types of expressions can be at fault: a model's own type leads nowhere, and is no identifier, no reference, no union and not optional.
+use Rattle.std.proofs.Common.{◌≡◌, ℕ, zero, suc, ◌+◌, ◌-◌, ◌<◌, ◌≤◌, List, [], ◌∷◌, ◌++◌, length, map, slice_get, Bool, true, false, ◌&&◌, ◌||◌, not, Option, Some, None, sym, subst, refl, inl, inr, arith, ◌∙◌}
+use Rattle.std.specs.Prelude.{◌⊎◌, Contains}
 use Rattle.std.proofs.lemmas.Bool.{cases_lt}
 use Rattle.std.proofs.lemmas.List.{length-map}
 use Rattle.std.proofs.lemmas.Option.{same_Some}
@@ -11,7 +11,8 @@ use Rattle.type_core.specs.declared.shape.Shape.{Shape}
 use Rattle.type_core.specs.declared.shape.Shape.TheVariants as shape
 use Rattle.type_core.specs.Table.{Table, shape_at, leads_of}
 use Rattle.type_core.specs.Names.{LeadsTo}
-use Rattle.type_core.specs.Faults.{HasFault, name, union, «default»}
+use Rattle.type_core.specs.Identifiers.{is_identifier, of_property, has_number, second_types, is_misplaced, misleads}
+use Rattle.type_core.specs.Faults.{HasFault, name, identifier, target, union, «default»}
 use Rattle.schema_form.specs.declared.form.SchemaForm.{SchemaForm}
 use Rattle.schema_form.specs.declared.form.Expression.{Expression}
 use Rattle.schema_form.specs.declared.form.ModelForm.{ModelForm}
@@ -38,16 +39,44 @@ slice_get-past (y ∷ xs) ys (suc i) past =
     let e : suc i - suc (length xs) ≡ i - length xs = omega arith in
     rw e (slice_get-past xs ys i (omega arith))
 
--- a model's own type leads nowhere, and is neither a union nor optional
+-- a model's own type leads nowhere
 no_lead : (table : Table) (t : ℕ) (s : Shape) (u : TypeNo) → IsOwn (shape_at table t) → shape_at table t ≡ Some s → Contains (leads_of s) u → ⊥
 no_lead table t s u own is leads = by_shape s (subst IsOwn is own) leads where
   by_shape : (s : Shape) → IsOwn (Some s) → Contains (leads_of s) u → ⊥
   by_shape (shape.Model m) own leads = omega (arith, leads.1)
   by_shape _ own leads = own
 
+-- nor is it an identifier or a reference
+own_no_identifier : (o : Option Shape) → IsOwn o → is_identifier o ≡ false
+own_no_identifier None own = refl
+own_no_identifier (Some (shape.Model m)) own = refl
+own_no_identifier (Some _) own = absurd own
+
+no_first : (a b : Bool) → a && b ≡ true → a ≡ false → ⊥
+no_first true b h e = cc
+no_first false b h e = cc
+
+own_placed : (table : Table) (t : ℕ) → IsOwn (shape_at table t) → is_misplaced table t ≡ true → ⊥
+own_placed table t own h =
+    no_first (is_identifier (shape_at table t)) (not (of_property table t) || has_number t (second_types table table.models)) h
+    (own_no_identifier (shape_at table t) own)
+
+own_cases : (o : Option Shape) → IsOwn o → (o ≡ None) ⊎ ((m : ModelNo) × (o ≡ Some (shape.Model m)))
+own_cases None own = inl refl
+own_cases (Some (shape.Model m)) own = inr (m, refl)
+own_cases (Some _) own = absurd own
+
+own_led : (table : Table) (t : ℕ) → IsOwn (shape_at table t) → misleads table t ≡ true → ⊥
+own_led table t own h = elim (own_cases (shape_at table t) own) [
+  | inl none ↦ let no = rw none at h in cc
+  | inr model ↦ let no = rw model.1 at h in cc
+]
+
 not_own : (table : Table) (t : ℕ) (rule : SchemaRule) → HasFault table t rule → IsOwn (shape_at table t) → ⊥
 not_own table _ _ (name t (LeadsTo.at_once _ s u is leads)) own = no_lead table t s u own is leads
 not_own table _ _ (name t (LeadsTo.by_way _ s u w is leads on)) own = no_lead table t s u own is leads
+not_own table _ _ (identifier t misplaced) own = own_placed table t own misplaced
+not_own table _ _ (target t misled) own = own_led table t own misled
 not_own table _ _ (union t ms is apart) own = subst IsOwn is own
 not_own table _ _ («default» t u d is none) own = subst IsOwn is own
 

@@ -11,7 +11,7 @@ use Rattle.pointer_core.specs.declared.schema_rule.SchemaRule.{SchemaRule}
 use Rattle.pointer_core.specs.declared.schema_rule.SchemaRule.TheVariants as rule
 use Rattle.type_core.specs.declared.shape.Property.{Property}
 use Rattle.type_core.specs.Table.{Table}
-use Rattle.type_core.specs.Faults.{HasFault, name, union, «default», pass_of, order_of, Precedes, IsFirstFault}
+use Rattle.type_core.specs.Faults.{HasFault, name, identifier, target, union, «default», pass_of, order_of, Precedes, IsFirstFault}
 use Rattle.schema_form.specs.declared.form.SchemaForm.{SchemaForm}
 use Rattle.schema_form.specs.declared.form.Entry.{Entry}
 use Rattle.schema_form.specs.declared.form.EntryNo.{EntryNo}
@@ -99,11 +99,15 @@ level a b less more = elim (cases_lt a b) [
 -- the rule of a fault is known by its order
 abbrev rule_of : ℕ → SchemaRule
 rule_of zero = rule.Name
-rule_of (suc zero) = rule.Union
-rule_of (suc (suc n)) = rule.Default
+rule_of (suc zero) = rule.Identifier
+rule_of (suc (suc zero)) = rule.Target
+rule_of (suc (suc (suc zero))) = rule.Union
+rule_of (suc (suc (suc (suc n)))) = rule.Default
 
 rule_of-order : (table : Table) (t : ℕ) (r : SchemaRule) → HasFault table t r → rule_of (order_of r) ≡ r
 rule_of-order table _ _ (name t back) = refl
+rule_of-order table _ _ (identifier t misplaced) = refl
+rule_of-order table _ _ (target t misled) = refl
 rule_of-order table _ _ (union t ms is apart) = refl
 rule_of-order table _ _ («default» t u d is none) = refl
 

@@ -65,8 +65,13 @@ module _ (form : SchemaForm) (whole : IsWhole form) where
   long =
       let shapes : List Shape = map (shape_of form.entries) (kinds_of form.expressions) in
       let own : List Shape = own_shapes 0 form.models in
-      omega (arith, length-map (shapes ++ own) Some, length-append shapes own, length-map (kinds_of form.expressions) (shape_of form.entries),
-      length-map form.expressions (λ (e : Expression). e.kind))
+      omega (
+        arith,
+        length-map (shapes ++ own) Some,
+        length-append shapes own,
+        length-map (kinds_of form.expressions) (shape_of form.entries),
+        length-map form.expressions (λ (e : Expression). e.kind),
+      )
 
   -- an entry's type is that of an expression
   type_of-below : (e : EntryNo) → e.0 < length form.entries → (type_of form.entries e).0 < length (plan_of (table_of form)).shapes

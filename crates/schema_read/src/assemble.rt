@@ -62,7 +62,10 @@ fn copied(alloc: Global, properties: &[Property]) -> Result<Properties, AllocErr
     let mut copy = Parts::new(alloc);
     for property in properties {
         let name = property.name.clone_in(alloc)?;
-        copy.push(Property { name, of: property.of })?;
+        copy.push(Property {
+            name,
+            of: property.of,
+        })?;
     }
     Ok(copy)
 }

@@ -7,9 +7,9 @@
 //! }
 //! ```
 //!
-//! A schema is told exactly where the bytes spell one, and it is the only one that they spell. A fault is
-//! the first one by a fixed order, so that the same file is refused alike each time: `read_schema` has the
-//! order, and the laws beside it say that no two answers are right.
+//! Unless memory runs out, the answer is the one schema that the bytes spell, or the one fault that comes
+//! first in them, or that they are no JSON: `read_schema` has the order of faults, and the laws beside it
+//! say that no two of these answers are right.
 #![tactic(auto)]
 
 mod assemble;

@@ -53,6 +53,7 @@ fn schema_in(alloc: Global, file: &Snap) -> Result<Schema, SchemaError>
     }
 }
 
+/// The answer to a file with a fault.
 fn refused(fault: Fault) -> SchemaError
     ensures { result ≡ SchemaError.Refused fault.path fault.rule }
 {
