@@ -17,7 +17,7 @@ use Rattle.schema_form.specs.declared.form.SchemaForm.{SchemaForm}
 use Rattle.schema_form.specs.declared.form.Expression.{Expression}
 use Rattle.schema_form.specs.declared.form.ModelForm.{ModelForm}
 use Rattle.schema_form.specs.Pointers.{places_of}
-use Rattle.schema_read.specs.Types.{shape_of, own_shapes, kinds_of, table_of}
+use Rattle.schema_read.specs.Types.{kind_shape, own_shapes, kinds_of, table_of}
 
 -- a shape that is a model's own, if it is one
 abbrev IsOwn : Option Shape → Type 0
@@ -83,9 +83,9 @@ not_own table _ _ («default» t u d is none) own = subst IsOwn is own
 -- a type at fault is that of an expression
 pub HasFault-expression : (form : SchemaForm) (t : ℕ) (rule : SchemaRule) → HasFault (table_of form) t rule → t < length (places_of form.expressions)
 HasFault-expression form t rule fault =
-    let shapes : List Shape = map (shape_of form.entries) (kinds_of form.expressions) in
+    let shapes : List Shape = map (kind_shape form.entries) (kinds_of form.expressions) in
     let count : length shapes ≡ length (places_of form.expressions) =
-    length-map (kinds_of form.expressions) (shape_of form.entries) ∙ length-map form.expressions (λ (e : Expression). e.kind)
+    length-map (kinds_of form.expressions) (kind_shape form.entries) ∙ length-map form.expressions (λ (e : Expression). e.kind)
     ∙ sym (length-map form.expressions (λ (e : Expression). e.place)) in
     elim (cases_lt t (length shapes)) [
       | inl below ↦ omega (arith, below, count)

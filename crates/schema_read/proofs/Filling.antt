@@ -9,8 +9,8 @@ use Rattle.type_core.specs.declared.shape.Shape.TheVariants as shape
 use Rattle.type_core.specs.declared.shape.ModelType.{ModelType}
 use Rattle.type_core.specs.Table.{Plan}
 use Rattle.schema_form.specs.declared.form.ModelForm.{ModelForm}
-use Rattle.schema_read.specs.Types.{type_no, own_shapes, models_from}
-use Rattle.schema_read.specs.Assembly.{IsModelOf}
+use Rattle.schema_read.specs.Types.{own_shapes, models_from}
+use Rattle.schema_read.specs.Assembly.{IsFit}
 
 -- the last of the types that have no shape gets one
 defined_last : {X : Type 0} (all : List (Option X)) (n : ℕ) (x : Option X) → take (suc n) all ≡ replicate (suc n) None
@@ -53,19 +53,19 @@ drop-next xs i x lt is =
 
 -- one model more
 pub add_step : (count : ℕ) (old new : Plan) (model : ModelForm) (m : ModelNo) (left rest : List ModelForm) → left ≡ model ∷ rest
-    → All (IsModelOf count) left → m.0 ≡ length old.models
-    → new.models ≡ old.models ++ record { name = model.name; properties = model.properties; own = type_no (length old.shapes) } ∷ []
+    → All (IsFit count) left → m.0 ≡ length old.models
+    → new.models ≡ old.models ++ record { name = model.name; properties = model.properties; own = record { 0 = length old.shapes } } ∷ []
     → new.shapes ≡ old.shapes ++ Some (shape.Model m) ∷ []
-    → (length old.shapes ≤ length new.shapes) × All (IsModelOf count) rest
+    → (length old.shapes ≤ length new.shapes) × All (IsFit count) rest
     × (new.shapes ++ map Some (own_shapes (length new.models) rest) ≡ old.shapes ++ map Some (own_shapes (length old.models) left))
     × (new.models ++ models_from (length new.shapes) rest ≡ old.models ++ models_from (length old.shapes) left)
 add_step count old new model m left rest is known number models shapes =
-    let all : All (IsModelOf count) (model ∷ rest) = subst (λ ms. All (IsModelOf count) ms) is known in
-    let own : ModelType = record { name = model.name; properties = model.properties; own = type_no (length old.shapes) } in
+    let all : All (IsFit count) (model ∷ rest) = subst (λ ms. All (IsFit count) ms) is known in
+    let own : ModelType = record { name = model.name; properties = model.properties; own = record { 0 = length old.shapes } } in
     let longer : length new.shapes ≡ length old.shapes + 1 = ap length shapes ∙ length-append old.shapes (Some (shape.Model m) ∷ []) in
     let more : length new.models ≡ length old.models + 1 = ap length models ∙ length-append old.models (own ∷ []) in (
       omega (arith, longer),
-      All-tail (IsModelOf count) model rest all,
+      All-tail (IsFit count) model rest all,
       rw (is, shapes, more, ← number) (append_assoc old.shapes (Some (shape.Model m) ∷ []) (map Some (own_shapes (m.0 + 1) rest))),
       rw (is, longer, models) (append_assoc old.models (own ∷ []) (models_from (length old.shapes + 1) rest)),
     )

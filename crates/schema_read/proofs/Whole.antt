@@ -22,8 +22,8 @@ use Rattle.schema_form.specs.declared.form.Holder.TheVariants.{Maybe, MaybeNull,
 use Rattle.schema_form.specs.declared.form.Kind.{Kind}
 use Rattle.schema_form.specs.declared.form.Kind.TheVariants as kind
 use Rattle.schema_form.specs.Form.{IsWhole, IsKindIn}
-use Rattle.schema_read.specs.Types.{type_of, plain_shape, holder_shape, shape_of, models_from, own_shapes, kinds_of, put_together, table_of, model_in, root_of}
-use Rattle.schema_read.specs.Assembly.{NamesEntry, IsKindOf, IsModelOf, AreWhole}
+use Rattle.schema_read.specs.Types.{type_of, plain_shape, holder_shape, kind_shape, models_from, own_shapes, kinds_of, put_together, table_of, as_model, root_of}
+use Rattle.schema_read.specs.Assembly.{NamesEntry, IsKindOf, IsFit, AreWhole}
 
 All-at : {X : Type 0} (P : X → Type 0) (xs : List X) → ((n : ℕ) (x : X) → slice_get xs n ≡ Some x → P x) → All P xs
 All-at P xs h k d lt = h k (get_or xs k d) (slice_get-get_or xs k d lt)
@@ -63,13 +63,13 @@ holder_known p Map u h = made_of p (shape.Map u) tt (none_below (length p.shapes
 module _ (form : SchemaForm) (whole : IsWhole form) where
   long : length form.expressions ≤ length (plan_of (table_of form)).shapes
   long =
-      let shapes : List Shape = map (shape_of form.entries) (kinds_of form.expressions) in
+      let shapes : List Shape = map (kind_shape form.entries) (kinds_of form.expressions) in
       let own : List Shape = own_shapes 0 form.models in
       omega (
         arith,
         length-map (shapes ++ own) Some,
         length-append shapes own,
-        length-map (kinds_of form.expressions) (shape_of form.entries),
+        length-map (kinds_of form.expressions) (kind_shape form.entries),
         length-map form.expressions (λ (e : Expression). e.kind),
       )
 
@@ -85,7 +85,7 @@ module _ (form : SchemaForm) (whole : IsWhole form) where
   within : (u : TypeNo) → u.0 < length form.expressions → u.0 < length (plan_of (table_of form)).shapes
   within u h = omega (arith, h, long)
 
-  shape_known : (k : Kind) → IsKindIn form k → IsShapeOf (plan_of (table_of form)) (shape_of form.entries k)
+  shape_known : (k : Kind) → IsKindIn form k → IsShapeOf (plan_of (table_of form)) (kind_shape form.entries k)
   shape_known (kind.Word (word.Plain plain)) h = plain_known (plan_of (table_of form)) plain
   shape_known (kind.Word (word.Named e)) h =
       let p : Plan = plan_of (table_of form) in
@@ -133,7 +133,7 @@ module _ (form : SchemaForm) (whole : IsWhole form) where
     shapes = All-map (λ (e : Expression). e.kind) (IsKindOf form.entries (plan_of (table_of form))) form.expressions
         (All-at (λ (e : Expression). IsKindOf form.entries (plan_of (table_of form)) e.kind) form.expressions
         (λ n e at. record { entry = entry_known e.kind (whole.kinds n e at); shape = shape_known e.kind (whole.kinds n e at) }));
-    known = All-at (IsModelOf (length (kinds_of form.expressions))) form.models
+    known = All-at (IsFit (length (kinds_of form.expressions))) form.models
         (λ n m at. record {
           named = (whole.models n m at).named;
           typed = let P : ℕ → Type 0 = λ count. AreTyped count m.properties in
@@ -141,11 +141,11 @@ module _ (form : SchemaForm) (whole : IsWhole form) where
         });
   }
 
-  model_known : (o : Option Expression) (m : ModelNo) → model_in (option_map (λ (e : Expression). e.kind) o) ≡ Some m
+  model_known : (o : Option Expression) (m : ModelNo) → as_model (option_map (λ (e : Expression). e.kind) o) ≡ Some m
       → (e : Expression) × (o ≡ Some e) × (e.kind ≡ kind.Model m)
   model_known None m h = cc
   model_known (Some e) m h = (e, refl, by_kind e.kind h) where
-    by_kind : (k : Kind) → model_in (Some k) ≡ Some m → k ≡ kind.Model m
+    by_kind : (k : Kind) → as_model (Some k) ≡ Some m → k ≡ kind.Model m
     by_kind (kind.Model l) h = ap kind.Model (same_Some l m h)
     by_kind _ h = cc
 
@@ -153,8 +153,8 @@ module _ (form : SchemaForm) (whole : IsWhole form) where
   pub root-below : (m : ModelNo) → root_of form ≡ Some m → m.0 < length (table_of form).models
   root-below m h =
       let n : ℕ = (type_of form.entries form.root).0 in
-      let at : model_in (option_map (λ (e : Expression). e.kind) (slice_get form.expressions n)) ≡ Some m =
-      ap model_in (sym (slice_get-map (λ (e : Expression). e.kind) form.expressions n)) ∙ h in
+      let at : as_model (option_map (λ (e : Expression). e.kind) (slice_get form.expressions n)) ≡ Some m =
+      ap as_model (sym (slice_get-map (λ (e : Expression). e.kind) form.expressions n)) ∙ h in
       let found = model_known (slice_get form.expressions n) m at in
       let P : Kind → Type 0 = IsKindIn form in
       let below : m.0 < length form.models = subst P found.2 (whole.kinds n found.0 found.1) in

@@ -6,7 +6,7 @@ use Rattle.schema_form.specs.declared.form.Kind.{Kind}
 use Rattle.schema_form.specs.declared.form.Kind.TheVariants.{Word, Reference, SafeReference}
 use Rattle.schema_form.specs.declared.form.Word.TheVariants.{Named}
 use Rattle.type_core.specs.Table.{Plan, AreNamed, AreTyped, IsShapeOf, plan_of}
-use Rattle.schema_read.specs.Types.{shape_of, put_together}
+use Rattle.schema_read.specs.Types.{kind_shape, put_together}
 
 -- the entry that an expression names is one of so many
 abbrev pub NamesEntry : ℕ → Kind → Type 0
@@ -18,14 +18,14 @@ NamesEntry count _ = Unit {0}
 -- an expression stands for a shape of the plan
 pub record IsKindOf (entries : List Entry) (plan : Plan) (kind : Kind) : Type 0 where
   pub entry : NamesEntry (length entries) kind
-  pub shape : IsShapeOf plan (shape_of entries kind)
+  pub shape : IsShapeOf plan (kind_shape entries kind)
 
 -- the properties of a model stand in order, and their types are among the first so many
-pub record IsModelOf (count : ℕ) (model : ModelForm) : Type 0 where
+pub record IsFit (count : ℕ) (model : ModelForm) : Type 0 where
   pub named : AreNamed model.properties
   pub typed : AreTyped count model.properties
 
 -- the expressions and the models stand for shapes and models of the plan that they are put into
 pub record AreWhole (entries : List Entry) (kinds : List Kind) (models : List ModelForm) : Type 0 where
   pub shapes : All (IsKindOf entries (plan_of (put_together entries kinds models))) kinds
-  pub known : All (IsModelOf (length kinds)) models
+  pub known : All (IsFit (length kinds)) models

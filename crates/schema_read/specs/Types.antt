@@ -20,12 +20,9 @@ use Rattle.schema_form.specs.declared.form.Holder.TheVariants.{Maybe, MaybeNull,
 use Rattle.schema_form.specs.declared.form.Kind.{Kind}
 use Rattle.schema_form.specs.declared.form.Kind.TheVariants as kind
 
-abbrev pub type_no : ℕ → TypeNo
-type_no n = record { 0 = n }
-
 -- the type of an entry
 abbrev pub type_of : List Entry → EntryNo → TypeNo
-type_of entries e = type_no (slice_index (map (λ (one : Entry). one.of.0) entries) e.0)
+type_of entries e = record { 0 = slice_index (map (λ (one : Entry). one.of.0) entries) e.0 }
 
 -- what a plain type is
 abbrev pub plain_shape : Plain → Shape
@@ -50,22 +47,22 @@ word_shape entries (word.Plain plain) = plain_shape plain
 word_shape entries (word.Named e) = shape.Named (type_of entries e)
 
 -- what a type expression stands for; a reference leads to the type of the entry that it names
-abbrev pub shape_of : List Entry → Kind → Shape
-shape_of entries (kind.Word w) = word_shape entries w
-shape_of entries (kind.Literal l) = shape.Literal l
-shape_of entries (kind.Enumeration texts) = shape.Enumeration texts
-shape_of entries (kind.Optional u d) = shape.Optional u d
-shape_of entries (kind.Holder holder u) = holder_shape holder u
-shape_of entries (kind.Union us) = shape.Union us
-shape_of entries (kind.Refinement u conditions) = shape.Refinement u conditions
-shape_of entries (kind.Reference e) = shape.Reference (type_of entries e)
-shape_of entries (kind.SafeReference e) = shape.Safe (type_of entries e)
-shape_of entries (kind.Model m) = shape.Model m
+abbrev pub kind_shape : List Entry → Kind → Shape
+kind_shape entries (kind.Word w) = word_shape entries w
+kind_shape entries (kind.Literal l) = shape.Literal l
+kind_shape entries (kind.Enumeration texts) = shape.Enumeration texts
+kind_shape entries (kind.Optional u d) = shape.Optional u d
+kind_shape entries (kind.Holder holder u) = holder_shape holder u
+kind_shape entries (kind.Union us) = shape.Union us
+kind_shape entries (kind.Refinement u conditions) = shape.Refinement u conditions
+kind_shape entries (kind.Reference e) = shape.Reference (type_of entries e)
+kind_shape entries (kind.SafeReference e) = shape.Safe (type_of entries e)
+kind_shape entries (kind.Model m) = shape.Model m
 
 -- models, whose own types are numbered from here on
 abbrev pub models_from : ℕ → List ModelForm → List ModelType
 models_from own [] = []
-models_from own (m ∷ ms) = record { name = m.name; properties = m.properties; own = type_no own } ∷ models_from (own + 1) ms
+models_from own (m ∷ ms) = record { name = m.name; properties = m.properties; own = record { 0 = own } } ∷ models_from (own + 1) ms
 
 -- the models' own types, the first of which is the model of this number
 abbrev pub own_shapes : ℕ → List ModelForm → List Shape
@@ -79,7 +76,7 @@ kinds_of expressions = map (λ e. e.kind) expressions
 -- the types of entries, expressions and models
 abbrev pub put_together : List Entry → List Kind → List ModelForm → Table
 put_together entries kinds models = record {
-  shapes = map (shape_of entries) kinds ++ own_shapes 0 models;
+  shapes = map (kind_shape entries) kinds ++ own_shapes 0 models;
   models = models_from (length kinds) models;
 }
 
@@ -87,13 +84,13 @@ abbrev pub table_of : SchemaForm → Table
 table_of form = put_together form.entries (kinds_of form.expressions) form.models
 
 -- the model that an expression is
-abbrev pub model_in : Option Kind → Option ModelNo
-model_in (Some (kind.Model m)) = Some m
-model_in _ = None
+abbrev pub as_model : Option Kind → Option ModelNo
+as_model (Some (kind.Model m)) = Some m
+as_model _ = None
 
 -- the model that an entry is; none where it is only a name of one
 abbrev pub model_of : List Entry → List Kind → EntryNo → Option ModelNo
-model_of entries kinds e = model_in (slice_get kinds (type_of entries e).0)
+model_of entries kinds e = as_model (slice_get kinds (type_of entries e).0)
 
 -- the model that documents are of
 abbrev pub root_of : SchemaForm → Option ModelNo

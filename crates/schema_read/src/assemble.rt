@@ -3,9 +3,9 @@ ghost use Rattle.std.specs.Prelude.{◌≡◌, [], ◌++◌, length, map, take, 
 ghost use Rattle.type_core.specs.Table.{plan_of};
 ghost use Rattle.schema_read.specs.Types as types;
 ghost use Rattle.schema_read.specs.Types.{own_shapes, models_from, put_together};
-ghost use Rattle.schema_read.specs.Assembly.{IsKindOf, IsModelOf, AreWhole};
+ghost use Rattle.schema_read.specs.Assembly.{IsKindOf, IsFit, AreWhole};
 
-use crate::shapes::shape_of;
+use crate::shapes::kind_shape;
 use list_core::Parts;
 use schema_form::{Entry, Kind, ModelForm};
 use snap_core::TypeNo;
@@ -41,7 +41,7 @@ fn begun(alloc: Global, count: usize) -> Result<Draft, AllocError>
 
 /// Adds models.
 fn add_models(alloc: Global, draft: &mut Draft, models: &[ModelForm]) -> Result<(), AllocError>
-    requires { All (IsModelOf (length draft.old.shapes)) models.now }
+    requires { All (IsFit (length draft.old.shapes)) models.now }
     ensures shapes { OnOk result (draft.new.shapes
         ≡ draft.old.shapes ++ map Some (own_shapes (length draft.old.models) models.now)) }
     ensures models { OnOk result
@@ -75,10 +75,10 @@ fn define_all(draft: &mut Draft, entries: &[Entry], mut kinds: Parts<Kind>)
     requires undefined { take (length kinds) draft.old.shapes ≡ replicate (length kinds) None }
     requires kinds { All (IsKindOf entries.now draft.old) kinds }
     ensures { draft.new ≡ record draft.old {
-      shapes = map Some (map (types.shape_of entries.now) kinds) ++ drop (length kinds) draft.old.shapes;
+      shapes = map Some (map (types.kind_shape entries.now) kinds) ++ drop (length kinds) draft.old.shapes;
     } }
 {
     while let Some(kind) = kinds.pop() {
-        draft.define(TypeNo(kinds.len()), shape_of(entries, kind));
+        draft.define(TypeNo(kinds.len()), kind_shape(entries, kind));
     }
 }

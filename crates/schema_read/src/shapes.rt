@@ -9,9 +9,9 @@ use snap_core::{ModelNo, TypeNo};
 use type_core::Shape;
 
 /// The shape of a type expression.
-pub fn shape_of(entries: &[Entry], kind: Kind) -> Shape
+pub fn kind_shape(entries: &[Entry], kind: Kind) -> Shape
     requires { NamesEntry (length entries.now) kind }
-    ensures { result ≡ types.shape_of entries.now kind }
+    ensures { result ≡ types.kind_shape entries.now kind }
 {
     match kind {
         Kind::Word(Word::Plain(plain)) => plain_shape(plain),
@@ -33,11 +33,11 @@ pub fn model_of(entries: &[Entry], kinds: &[Kind], entry: EntryNo) -> Option<Mod
     requires { entry.0 < length entries.now }
     ensures { result ≡ types.model_of entries.now kinds.now entry }
 {
-    model_in(kinds.get(type_of(entries, entry).0))
+    as_model(kinds.get(type_of(entries, entry).0))
 }
 
-fn model_in(kind: Option<&Kind>) -> Option<ModelNo>
-    ensures { result ≡ types.model_in (option_copied kind.entry) }
+fn as_model(kind: Option<&Kind>) -> Option<ModelNo>
+    ensures { result ≡ types.as_model (option_copied kind.entry) }
 {
     match kind {
         Some(Kind::Model(model)) => Some(*model),

@@ -1,7 +1,7 @@
 -- What the draft has, before what is left to add.
 use Rattle.std.proofs.Common.{◌≡◌, ◌≤◌, ◌++◌, length, map, drop, Some, All}
 use Rattle.schema_read.specs.Types.{own_shapes, models_from}
-use Rattle.schema_read.specs.Assembly.{IsModelOf}
+use Rattle.schema_read.specs.Assembly.{IsFit}
 use Rattle.schema_read.proofs.assemble.add_models.Given as goal
 
 abbrev pub invariant-loop-model : goal.invariant-loop-model
@@ -10,7 +10,7 @@ invariant-loop-model l =
     let first = l.initial in
     record {
       room : length first.draft.shapes ≤ length l.draft.shapes;
-      known : All (IsModelOf (length first.draft.shapes)) left;
+      known : All (IsFit (length first.draft.shapes)) left;
       shapes : l.draft.shapes ++ map Some (own_shapes (length l.draft.models) left)
           ≡ first.draft.shapes ++ map Some (own_shapes (length first.draft.models) l.models);
       models : l.draft.models ++ models_from (length l.draft.shapes) left

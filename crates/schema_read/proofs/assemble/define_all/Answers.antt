@@ -2,7 +2,7 @@ use Rattle.std.proofs.Common.{◌≡◌, length, slice_set, Some, ap, ◌∙◌,
 use Rattle.std.proofs.lemmas.List.Elements.{All-pop}
 use Rattle.type_core.specs.Table.{Plan}
 use Rattle.type_core.proofs.Plans.{IsNoSmaller}
-use Rattle.schema_read.specs.Types.{shape_of}
+use Rattle.schema_read.specs.Types.{kind_shape}
 use Rattle.schema_read.specs.Assembly.{IsKindOf}
 use Rattle.schema_read.proofs.Filling.{define_step}
 use Rattle.schema_read.proofs.Growing.{AreKindsOf-more}
@@ -16,12 +16,12 @@ loop-kind-preserved c =
     let entries = c.args.entries.now in
     let at = c.len.ensures in
     let new = c.define.new.self in
-    let same = rw (at, c.shape_of.ensures) at c.define.ensures in
-    let step = define_step (shape_of entries) l.kinds left kind l.draft.shapes c.in-Some.ensures.some l.invariant.undefined in
-    let shapes_are : new.shapes ≡ slice_set l.draft.shapes (length left) (Some (shape_of entries kind)) = ap (λ (p : Plan). p.shapes) same in
+    let same = rw (at, c.kind_shape.ensures) at c.define.ensures in
+    let step = define_step (kind_shape entries) l.kinds left kind l.draft.shapes c.in-Some.ensures.some l.invariant.undefined in
+    let shapes_are : new.shapes ≡ slice_set l.draft.shapes (length left) (Some (kind_shape entries kind)) = ap (λ (p : Plan). p.shapes) same in
     let models_are : new.models ≡ l.draft.models = ap (λ (p : Plan). p.models) same in
     let grown : IsNoSmaller l.draft new = record {
-      shapes = omega (arith, ap length shapes_are, length-set l.draft.shapes (length left) (Some (shape_of entries kind)));
+      shapes = omega (arith, ap length shapes_are, length-set l.draft.shapes (length left) (Some (kind_shape entries kind)));
       models = omega (arith, ap length models_are);
     } in
     record {
@@ -31,13 +31,13 @@ loop-kind-preserved c =
       models = models_are ∙ l.invariant.models;
     }
 
-pub shape_of-requires-in-Some : goal.shape_of-requires-in-Some
-shape_of-requires-in-Some c =
+pub kind_shape-requires-in-Some : goal.kind_shape-requires-in-Some
+kind_shape-requires-in-Some c =
     let l = c.loop-kind in
     (All-pop (IsKindOf c.args.entries.now l.draft) l.kinds c.pop.new.self (Some c.in-Some.kind) c.in-Some.ensures.some l.invariant.known).1.entry
 
 pub define-requires-clause-names : goal.define-requires-clause-names
 define-requires-clause-names c =
     let l = c.loop-kind in
-    rw c.shape_of.ensures
+    rw c.kind_shape.ensures
     (All-pop (IsKindOf c.args.entries.now l.draft) l.kinds c.pop.new.self (Some c.in-Some.kind) c.in-Some.ensures.some l.invariant.known).1.shape
