@@ -19,7 +19,7 @@ use Rattle.type_core.specs.Unions.{are_apart}
 use Rattle.type_core.specs.Making.{absent_made, default_made, absent}
 use Rattle.type_core.specs.Makes.{Makes}
 use Rattle.type_core.specs.Faults.{HasFault, name, identifier, target, union, «default», pass_of, order_of, Precedes, IsFirstFault, IfWrong}
-use Rattle.type_core.specs.Sound.{AreMade, AreAll, IsSound, HasDefault}
+use Rattle.type_core.specs.Sound.{AreMade, AreAll, IsOptional, IsSound, HasDefault}
 use Rattle.type_core.specs.Passes.{IsFaultless, IsFirstOf, IsMissing}
 use Rattle.type_core.proofs.Chains.{named_by-at}
 use Rattle.type_core.proofs.Laws.{made_by-complete}
@@ -210,16 +210,17 @@ told_apart table t ms faultless shape true e = e
 told_apart table t ms faultless shape false e = absurd (faultless rule.Union refl (union t ms shape e))
 
 pub IsSound-faultless : (table : Table) (root : ModelNo) (defaults : List (Option Snap)) → IsBegun (plan_of table) → root.0 < length table.models
-    → ((t : ℕ) → IsFaultless table 0 t) → AreMade table defaults → AreAll table defaults → ((t : ℕ) → HasDefault table defaults t)
+    → ((t : ℕ) → IsFaultless table 0 t) → AreMade table defaults → AreAll table defaults
+    → ((t : ℕ) (s : Value) → default_at defaults t ≡ Some s → IsOptional table t) → length defaults ≡ length table.shapes → ((t : ℕ) → HasDefault table defaults t)
     → IsSound (record { table = table; root = root; defaults = defaults })
-IsSound-faultless table root defaults begun within faultless made all known = record {
+IsSound-faultless table root defaults begun within faultless made all only count known = record {
   begun = begun;
   root = within;
   loopless = λ t back. faultless t rule.Name refl (name t back);
   placed = λ t. placed_of table t (faultless t) (is_misplaced table t) refl;
   led = λ t. led_of table t (faultless t) (misleads table t) refl;
   apart = λ t ms shape. told_apart table t ms (faultless t) shape (are_apart table ms) refl;
-  defaults = record { known = known; made = made };
+  defaults = record { known = known; made = made; only = only; count = count };
   all = all;
 }
 

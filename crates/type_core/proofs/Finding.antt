@@ -27,7 +27,7 @@ doubled-front : (seen : List Key) (xs ys : List Identified) (path : Path) → do
 doubled-front seen [] ys path h = cc
 doubled-front seen (x ∷ xs) ys path h =
     elim (list_any (same_key (key_of x)) seen) as (λ b. (if b then Some x.path else doubled_after (seen ++ key_of x ∷ []) xs) ≡ Some path
-        → (if b then Some x.path else doubled_after (seen ++ key_of x ∷ []) (xs ++ ys)) ≡ Some path) [
+    → (if b then Some x.path else doubled_after (seen ++ key_of x ∷ []) (xs ++ ys)) ≡ Some path) [
       | true ↦ λ e. e
       | false ↦ λ e. doubled-front (seen ++ key_of x ∷ []) xs ys path e
     ] h
@@ -41,7 +41,7 @@ doubled-behind seen [] ys h = ap (λ ks. doubled_after ks ys) (append_none seen)
     append_none (k ∷ ks) = ap (λ ls. k ∷ ls) (append_none ks)
 doubled-behind seen (x ∷ xs) ys h =
     elim (list_any (same_key (key_of x)) seen) as (λ b. (if b then Some x.path else doubled_after (seen ++ key_of x ∷ []) xs) ≡ None
-        → (if b then Some x.path else doubled_after (seen ++ key_of x ∷ []) (xs ++ ys)) ≡ doubled_after (seen ++ key_of x ∷ map key_of xs) ys) [
+    → (if b then Some x.path else doubled_after (seen ++ key_of x ∷ []) (xs ++ ys)) ≡ doubled_after (seen ++ key_of x ∷ map key_of xs) ys) [
       | true ↦ λ e. cc
       | false ↦ λ e. doubled-behind (seen ++ key_of x ∷ []) xs ys e ∙ ap (λ ks. doubled_after ks ys) (append_assoc seen (key_of x ∷ []) (map key_of xs))
     ] h
@@ -60,8 +60,7 @@ Finds-behind (Some path) old middle new xs ys first h =
     doubled-behind old xs ys first.0 ∙ subst P first.1 h
 Finds-behind None old middle new xs ys first h =
     let P : List Key → Type 0 = λ ks. doubled_after ks ys ≡ None in
-    let Q : List Key → Type 0 = λ ks. new ≡ ks ++ map key_of ys in
-    (
+    let Q : List Key → Type 0 = λ ks. new ≡ ks ++ map key_of ys in (
       doubled-behind old xs ys first.0 ∙ subst P first.1 h.0,
       subst Q first.1 h.1 ∙ append_assoc old (map key_of xs) (map key_of ys) ∙ ap (λ ks. old ++ ks) (sym (map-append xs ys)),
     )
@@ -79,7 +78,7 @@ doubled-lowered : (token : List ℕ) (seen : List Key) (ids : List Identified) �
 doubled-lowered token seen [] = refl
 doubled-lowered token seen (i ∷ ids) =
     elim (list_any (same_key (key_of i)) seen) as (λ b. (if b then Some (token ∷ i.path) else doubled_after (seen ++ key_of i ∷ []) (lowered token ids))
-        ≡ lower token (if b then Some i.path else doubled_after (seen ++ key_of i ∷ []) ids)) [
+    ≡ lower token (if b then Some i.path else doubled_after (seen ++ key_of i ∷ []) ids)) [
       | true ↦ refl
       | false ↦ doubled-lowered token (seen ++ key_of i ∷ []) ids
     ]
@@ -153,7 +152,7 @@ found_under-value : (table : Table) (p : Property) (ms : Fields) → found_under
 found_under-value table p no_members = refl
 found_under-value table p (member k v ms) =
     elim (bytes_eq p.name k) as (λ b. (if b then lowered p.name (finder_of table v p.of.0) else found_under p (keyed_finders_of table ms))
-        ≡ under-field table p (if b then Some v else value_at p.name ms)) [
+    ≡ under-field table p (if b then Some v else value_at p.name ms)) [
       | true ↦ refl
       | false ↦ found_under-value table p ms
     ]

@@ -16,15 +16,16 @@ use Rattle.type_core.specs.declared.shape.Shape.TheVariants.{Str, Integer, Boole
 use Rattle.type_core.specs.declared.shape.Property.{Property}
 use Rattle.type_core.specs.Table.{Table, shape_at, properties_of, default_at}
 use Rattle.type_core.specs.Names.{named_step, named_within, named_by, shape_by}
-use Rattle.type_core.specs.Identifiers.{shape_of, identifier_in, is_of_kind, is_key, is_firm}
+use Rattle.type_core.specs.Identifiers.{shape_of, identifier_in, is_of_kind, is_key, is_firm, ident_in}
+use Rattle.snap_core.specs.declared.ident.Ident.{Ident}
 use Rattle.type_core.specs.Unions.{is_scalar, is_same, is_based, takes, chosen}
 use Rattle.snap_core.specs.Value.{value_at}
 use Rattle.type_core.specs.Judging.{is_null, shape_for, judged_by_choice, judged_step, judged_within, judged_by}
-use Rattle.type_core.specs.Making.{Outcome, admits, conditions_of, refused, scalar_made, default_made, absent_made, absent, items_made, entries_made, field_at, property_made, properties_made, list_of, record_of, list_made, dict_made, maker_of, makers_of, fields_of, made_by}
+use Rattle.type_core.specs.Making.{Outcome, admits, conditions_of, refused, scalar_made, default_made, absent_made, absent, items_made, keyed, entries_made, field_at, property_made, properties_made, list_of, record_of, list_made, dict_made, maker_of, makers_of, fields_of, made_by}
 use Rattle.type_core.specs.Makes.{IsMaybe, maybe, maybe_null, Makes, string, whole, truth, nothing, literal, enumeration, identifier, identifier_number, reference, safe, safe_of_null, safe_absent, frozen, frozen_absent, optional, optional_absent, maybe_of_null, maybe_absent, maybe_other, union, refinement, array, array_absent, map, map_absent, model, name, MakesItems, no_items, one_item, MakesValues, no_values, one_value, MakesEach, no_more, one_more}
 use Rattle.type_core.specs.Sound.{AreMade, AreAll}
 use Rattle.type_core.proofs.Chains.{IsLoopless, shape_for-is, shape_for-property, shape_for-other, shape_for-null, property-not_firm, judged_by-at, judged_by-for, named_by-at}
-use Rattle.type_core.proofs.Outcomes.{part_made-Ok, entry_made-Ok, list_of-Ok, record_of-Ok, property_made-made_by, default_made-Ok}
+use Rattle.type_core.proofs.Outcomes.{part_made-Ok, entry_made-Ok, keyed-Ok, list_of-Ok, record_of-Ok, property_made-made_by, default_made-Ok}
 
 -- null and what isn't
 pub is_null-null : (v : Value) → is_null v ≡ true → v ≡ null
@@ -239,9 +240,11 @@ module _ (table : Table) (defaults : List (Option Snap)) (known : AreMade table 
         let P : Fields → Type 0 = MakesValues table t no_members in
         let e : no_members ≡ made = cc in subst P e (no_values t)
     values-sound (member k v ms) = λ t made h.
-        let parts = entry_made-Ok k (maker_of table defaults v t) (entries_made t (fields_of table defaults ms)) made h in
+        let own : Option Ident = ident_in table (judged_by table v t) v in
+        let parts = entry_made-Ok k (keyed k own (maker_of table defaults v t)) (entries_made t (fields_of table defaults ms)) made h in
+        let one = keyed-Ok k own (maker_of table defaults v t) parts.0 parts.2 in
         let P : Fields → Type 0 = MakesValues table t (member k v ms) in
-        subst P (sym parts.4) (one_value t k v parts.0 ms parts.1 (maker_of-sound v t parts.0 parts.2) (values-sound ms t parts.1 parts.3))
+        subst P (sym parts.4) (one_value t k v parts.0 ms parts.1 (maker_of-sound v t parts.0 one.0) one.1 (values-sound ms t parts.1 parts.3))
 
     pub fields-sound : (ms : Fields) → AreSound table defaults ms
     fields-sound no_members = λ key v e t s h. cc
@@ -345,7 +348,7 @@ module _ (table : Table) (defaults : List (Option Snap)) (loopless : IsLoopless 
   other-judged t _ _ v e (maybe_null u) ne = judged_by-at table loopless v t (MaybeNull u) e refl ∙ rw (is_null-other v ne)
 
   -- what a type that is no name makes of none
-  absent-at : (t : ℕ) (shape : Shape) → shape_at table t ≡ Some shape → named_step (named_by table) t (Some shape) ≡ t
+  pub absent-at : (t : ℕ) (shape : Shape) → shape_at table t ≡ Some shape → named_step (named_by table) t (Some shape) ≡ t
       → absent table defaults t ≡ absent_made table defaults t (Some shape)
   absent-at t shape e same =
       ap (λ (k : ℕ). absent_made table defaults k (shape_at table k)) (named_by-at table loopless t shape e ∙ same) ∙ ap (absent_made table defaults t) e
@@ -418,7 +421,7 @@ module _ (table : Table) (defaults : List (Option Snap)) (loopless : IsLoopless 
 
       pub values-complete : (t : ℕ) (given made : Fields) → MakesValues table t given made → entries_made t (fields_of table defaults given) ≡ Ok made
       values-complete _ _ _ (no_values t) = refl
-      values-complete _ _ _ (one_value t k v s given made one rest) = rw (made_by-complete t (Some v) s one, values-complete t given made rest)
+      values-complete _ _ _ (one_value t k v s given made one key rest) = rw (made_by-complete t (Some v) s one, key, values-complete t given made rest)
 
       pub each-complete : (given : Fields) (ps : List Property) (made : Fields)
           → MakesEach table given ps made → properties_made (absent table defaults) ps (fields_of table defaults given) ≡ Ok made
@@ -500,8 +503,10 @@ module _ (table : Table) (old new : List (Option Snap)) (stays : (t : ℕ) (s : 
         → entries_made t (fields_of table old ms) ≡ Ok made → entries_made t (fields_of table new ms) ≡ Ok made
     values-more no_members = λ t made h. h
     values-more (member k v ms) = λ t made h.
-        let parts = entry_made-Ok k (maker_of table old v t) (entries_made t (fields_of table old ms)) made h in
-        rw (maker_of-more v t parts.0 parts.2, values-more ms t parts.1 parts.3) (ap Ok (sym parts.4))
+        let own : Option Ident = ident_in table (judged_by table v t) v in
+        let parts = entry_made-Ok k (keyed k own (maker_of table old v t)) (entries_made t (fields_of table old ms)) made h in
+        let one = keyed-Ok k own (maker_of table old v t) parts.0 parts.2 in
+        rw (maker_of-more v t parts.0 one.0, one.1, values-more ms t parts.1 parts.3) (ap Ok (sym parts.4))
 
     pub fields-more : (ms : Fields) → StayMade ms
     fields-more no_members = λ key v e t s h. cc

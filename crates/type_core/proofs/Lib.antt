@@ -21,3 +21,5 @@ pub mod Telling
 pub mod Meeting
 pub mod Examples
 pub mod SeenKeys
+pub mod Targets
+pub mod Oneness

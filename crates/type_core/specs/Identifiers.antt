@@ -1,6 +1,8 @@
 -- Identifiers of models, references to them, and where types stand directly.
 use Rattle.std.specs.Prelude.{◌≡◌, ℕ, List, [], ◌∷◌, ◌++◌, length, map, eqb, Bool, true, false, ◌&&◌, ◌||◌, not, is_none, Option, Some, None, if◌then◌else◌}
+use Rattle.std.specs.Fmt.{signed_decimal}
 use Rattle.std.specs.List.{list_any, filter, find}
+use Rattle.std.specs.Str.{bytes_eq}
 use Rattle.snap_core.specs.Value.{Value, null, integer, text, dict, value_at, Fields}
 use Rattle.snap_core.specs.declared.ident.Ident.{Ident}
 use Rattle.snap_core.specs.declared.ident.Ident.TheVariants as ident
@@ -61,9 +63,24 @@ abbrev pub ident_in : Table → Option Shape → Value → Option Ident
 ident_in table (Some (Model m)) (dict a ms) = ident_under (identifier_of table m.0) ms
 ident_in table shape v = None
 
+-- the text that an identifier is spelled by: a text by itself, a number in decimal
+abbrev pub ident_text : Ident → List ℕ
+ident_text (ident.Text s) = s
+ident_text (ident.Number z) = signed_decimal z
+
+-- a value with an identifier stands under the identifier's text
+abbrev pub is_keyed : List ℕ → Option Ident → Bool
+is_keyed key (Some i) = bytes_eq key (ident_text i)
+is_keyed key None = true
+
 abbrev pub is_safe : Option Shape → Bool
 is_safe (Some (Safe u)) = true
 is_safe _ = false
+
+abbrev pub is_reference : Option Shape → Bool
+is_reference (Some (Reference u)) = true
+is_reference (Some (Safe u)) = true
+is_reference _ = false
 
 -- one of the types has this number
 abbrev pub has_number : ℕ → List TypeNo → Bool

@@ -14,6 +14,7 @@ pub mod Defaulting
 pub mod Passes
 pub mod Marks
 pub mod Standings
+pub mod Targets
 pub mod Doubled
 pub mod Seen
 pub mod Finding

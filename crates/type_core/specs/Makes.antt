@@ -11,7 +11,8 @@ use Rattle.type_core.specs.declared.shape.Condition.{Condition}
 use Rattle.type_core.specs.declared.shape.Property.{Property}
 use Rattle.type_core.specs.Table.{Table, shape_at, properties_of}
 use Rattle.type_core.specs.Names.{shape_by}
-use Rattle.type_core.specs.Identifiers.{is_key, of_property}
+use Rattle.type_core.specs.Identifiers.{is_key, of_property, ident_in, is_keyed}
+use Rattle.type_core.specs.Judging.{judged_by}
 use Rattle.type_core.specs.Unions.{is_same, is_based, chosen}
 use Rattle.type_core.specs.Making.{admits, fits, is_within}
 
@@ -97,12 +98,13 @@ mutual
     one_item : (t : ℕ) (v s : Value) (given made : Items) → Makes table t (Some v) s
         → MakesItems table t given made → MakesItems table t (part v given) (part s made)
 
-  -- each value of a record is made by the type, under its key
+  -- Each value of a record is made by the type, under its key; where a model with an identifier makes it, the
+  -- key is the identifier's text.
   pub data MakesValues (table : Table) : ℕ → Fields → Fields → Type 0 where
     no_values : (t : ℕ) → MakesValues table t no_members no_members
     one_value : (t : ℕ) (k : List ℕ) (v s : Value) (given made : Fields)
-        → Makes table t (Some v) s → MakesValues table t given made
-        → MakesValues table t (member k v given) (member k s made)
+        → Makes table t (Some v) s → IsTrue (is_keyed k (ident_in table (judged_by table v t) v))
+        → MakesValues table t given made → MakesValues table t (member k v given) (member k s made)
 
   -- Each property is made of the record's field of its name; where there is no such field, no value is given.
   pub data MakesEach (table : Table) : Fields → List Property → Fields → Type 0 where

@@ -31,10 +31,16 @@ abbrev pub HasDefault : Table → List (Option Snap) → ℕ → Type 0
 HasDefault table defaults t =
     (u : TypeNo) (d : Snap) → shape_at table t ≡ Some (Optional u d) → IsSome (default_at defaults t)
 
--- each optional type has a known default, and that is what it makes where no value is given
+abbrev pub IsOptional : Table → ℕ → Type 0
+IsOptional table t = (u : TypeNo) × (d : Snap) × (shape_at table t ≡ Some (Optional u d))
+
+-- Each optional type has a known default, that is what it makes where no value is given, and no other type
+-- has one. There is a place for each type.
 pub record HasDefaults (types : Catalog) : Type 0 where
   pub known : (t : ℕ) → HasDefault types.table types.defaults t
   pub made : AreMade types.table types.defaults
+  pub only : (t : ℕ) (s : Value) → default_at types.defaults t ≡ Some s → IsOptional types.table t
+  pub count : length types.defaults ≡ length types.table.shapes
 
 -- types without a fault: they name what is there, none leads back to itself, identifiers and references
 -- stand where they may and lead to models with an identifier, unions are told apart, and each optional type
@@ -49,3 +55,7 @@ pub record IsSound (types : Catalog) : Type 0 where
       → IsTrue (are_apart types.table ms)
   pub defaults : HasDefaults types
   pub all : AreAll types.table types.defaults
+
+-- sound types of one table and one root are the same
+abbrev pub TypesAreOne : Type 0
+TypesAreOne = (a b : Catalog) → IsSound a → IsSound b → a.table ≡ b.table → a.root ≡ b.root → a ≡ b

@@ -1,11 +1,11 @@
 //! What optional types make where no value is given.
-ghost use Rattle.std.specs.Prelude.{◌≡◌, ◌<◌, length, replicate, All, Some, None, is_some, if◌then◌else◌, IfOk, MatchOption};
+ghost use Rattle.std.specs.Prelude.{◌≡◌, ℕ, ◌<◌, length, replicate, All, Some, None, is_some, if◌then◌else◌, IfOk, MatchOption};
 ghost use Rattle.std.specs.Bool.{OnTrue, OnFalse};
-ghost use Rattle.snap_core.specs.Value.{IsPlain};
+ghost use Rattle.snap_core.specs.Value.{Value, IsPlain};
 ghost use Rattle.snap_core.specs.View.{view};
 ghost use Rattle.type_core.specs.Table.{HoldsPlain, default_at};
 ghost use Rattle.type_core.specs.Makes as makes;
-ghost use Rattle.type_core.specs.Sound.{AreMade, AreAll, IsTried};
+ghost use Rattle.type_core.specs.Sound.{AreMade, AreAll, IsTried, IsOptional};
 ghost use Rattle.type_core.specs.Defaulting.{AreSoFar, IsNew, IsLightMade, MakesNoLight, unknown_count};
 
 use crate::limits::fits;
@@ -25,6 +25,7 @@ pub fn defaults_of(alloc: Global, types: &Tagged) -> Result<Parts<Option<Snap>>,
     requires plain { All HoldsPlain types.now.shapes }
     ensures made { IfOk result (λ defaults. AreMade types.now defaults) }
     ensures all { IfOk result (λ defaults. AreAll types.now defaults) }
+    ensures only { IfOk result (λ defaults. (t : ℕ) (s : Value) → default_at defaults t ≡ Some s → IsOptional types.now t) }
     ensures count { IfOk result (λ defaults. length defaults ≡ length types.now.shapes) }
 {
     let mut defaults = unknown(alloc, types.table().shapes.len())?;

@@ -4,17 +4,17 @@ ghost use Rattle.snap_core.specs.Value.{IsPlain, ArePlain, ArePlainMembers};
 ghost use Rattle.snap_core.specs.View.{view, items_view, fields_view};
 ghost use Rattle.std.specs.Option.{option_copied};
 ghost use Rattle.type_core.specs.Doubled as specs;
-ghost use Rattle.type_core.specs.Identifiers.{identifier_of, ident_of, ident_under};
+ghost use Rattle.type_core.specs.Identifiers.{identifier_of, ident_under};
 ghost use Rattle.type_core.specs.Finding.{Finds};
 
-use crate::identifiers::identifier_of;
+use crate::identifiers::identifier_under;
 use crate::judging::judged;
 use crate::seen::Seen;
 use crate::shape::{Property, Shape};
 use crate::tagged::Tagged;
 use crate::types::Types;
 use pointer_core::Pointer;
-use snap_core::{Field, ModelNo, Snap, TypeNo, find, position};
+use snap_core::{Field, ModelNo, Snap, TypeNo, position};
 use std::alloc::{AllocError, Global};
 
 /// Where the first model stands whose identifier an earlier one of the same model has, in a value of
@@ -165,11 +165,8 @@ fn find_itself(
     ensures { let itself = specs.found_itself m (ident_under (identifier_of types.now m.0) (fields_view fields.now)) in
         IfOk result (λ stood. Finds (if stood then Some [] else None) seen.old seen.new itself) }
 {
-    match identifier_of(types.table(), m) {
-        Some(property) => match find(fields, property.name.text()) {
-            Some(identifier) => seen.stood(m, identifier),
-            None => Ok(false),
-        },
+    match identifier_under(types.table(), m, fields) {
+        Some(identifier) => seen.stood(m, identifier),
         None => Ok(false),
     }
 }

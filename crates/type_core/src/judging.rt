@@ -62,9 +62,5 @@ fn next_step<'a>(types: &'a Tagged, given: &Snap, t: TypeNo) -> Step<'a>
 fn if_cleared<'a>(types: &Tagged, t: TypeNo, shape: Option<&'a Shape>) -> Option<&'a Shape>
     ensures { option_copied result ≡ (if is_firm types.now t.0 then None else option_copied shape.entry) }
 {
-    if types.is_firm(t) {
-        None
-    } else {
-        shape
-    }
+    if types.is_firm(t) { None } else { shape }
 }

@@ -19,14 +19,14 @@ pub returns-then-misleads-clause-wrong : goal.returns-then-misleads-clause-wrong
 returns-then-misleads-clause-wrong c = (
   refl,
   first_target c.args.table.now c.args.t.0 (told _ _ c.in_ok-leads_back.ensures c.if-branch.false) (sym c.is_misplaced.ensures ∙ c.if-is_misplaced.false)
-  (sym c.misleads.ensures ∙ c.if-misleads.true),
+      (sym c.misleads.ensures ∙ c.if-misleads.true),
 )
 
 pub returns-then-not-branch-clause-wrong : goal.returns-then-not-branch-clause-wrong
 returns-then-not-branch-clause-wrong c = (
   refl,
   first_union c.args.table.now c.args.t.0 (told _ _ c.in_ok-leads_back.ensures c.if-branch.false) (sym c.is_misplaced.ensures ∙ c.if-is_misplaced.false)
-  (sym c.misleads.ensures ∙ c.if-misleads.false) (rw c.if-not-branch.true at c.in_ok-is_apart.ensures),
+      (sym c.misleads.ensures ∙ c.if-misleads.false) (rw c.if-not-branch.true at c.in_ok-is_apart.ensures),
 )
 
 pub returns-clause-ok : goal.returns-clause-ok

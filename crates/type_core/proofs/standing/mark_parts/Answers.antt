@@ -16,7 +16,7 @@ returns-clause-marks c =
     let l = c.loop-shape in
     let ts = part_types c.as_slice-shape-items.result.now in
     let all : AreMarks l.marks ts = AreMarks-all (length c.args.table.now.shapes) l.marks ts
-        (shapes-done l.marks c.as_slice-shape-items.result.now l.shape-index _ c.loop-shape-test.false l.invariant) in
+    (shapes-done l.marks c.as_slice-shape-items.result.now l.shape-index _ c.loop-shape-test.false l.invariant) in
     rw (c.as_slice-shape-items.ensures ∙ ap (λ (table : Table). table.shapes) c.table.view_is) at all
 
 pub returns-clause-count : goal.returns-clause-count

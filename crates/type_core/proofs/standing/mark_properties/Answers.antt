@@ -16,7 +16,7 @@ returns-clause-marks c =
     let l = c.loop-model in
     let ts = property_types c.as_slice-model-items.result.now in
     let all : AreMarks l.marks ts = AreMarks-all (length c.args.table.now.shapes) l.marks ts
-        (models-done l.marks c.as_slice-model-items.result.now l.model-index _ c.loop-model-test.false l.invariant) in
+    (models-done l.marks c.as_slice-model-items.result.now l.model-index _ c.loop-model-test.false l.invariant) in
     rw (c.as_slice-model-items.ensures ∙ ap (λ (table : Table). table.models) c.table.view_is) at all
 
 pub returns-clause-count : goal.returns-clause-count
