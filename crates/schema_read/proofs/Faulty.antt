@@ -1,5 +1,5 @@
 -- Only the types of expressions can be at fault: a model's own type leads nowhere, and is no identifier, no reference, no union and not optional.
-use Rattle.std.proofs.Common.{◌≡◌, ℕ, zero, suc, ◌+◌, ◌-◌, ◌<◌, ◌≤◌, List, [], ◌∷◌, ◌++◌, length, map, slice_get, Bool, true, false, ◌&&◌, ◌||◌, not, Option, Some, None, sym, subst, refl, inl, inr, arith, ◌∙◌}
+use Rattle.std.proofs.Common.{◌≡◌, ℕ, zero, suc, ◌+◌, ◌-◌, ◌<◌, ◌≤◌, List, [], ◌∷◌, ◌++◌, length, map, slice_get, true, false, Option, Some, None, sym, subst, refl, inl, inr, arith, ◌∙◌}
 use Rattle.std.specs.Prelude.{◌⊎◌, Contains}
 use Rattle.std.proofs.lemmas.Bool.{cases_lt}
 use Rattle.std.proofs.lemmas.List.{length-map}
@@ -11,7 +11,7 @@ use Rattle.type_core.specs.declared.shape.Shape.{Shape}
 use Rattle.type_core.specs.declared.shape.Shape.TheVariants as shape
 use Rattle.type_core.specs.Table.{Table, shape_at, leads_of}
 use Rattle.type_core.specs.Names.{LeadsTo}
-use Rattle.type_core.specs.Identifiers.{is_identifier, of_property, has_number, second_types, is_misplaced, misleads}
+use Rattle.type_core.specs.Identifiers.{is_misplaced, misleads}
 use Rattle.type_core.specs.Faults.{HasFault, name, identifier, target, union, «default»}
 use Rattle.schema_form.specs.declared.form.SchemaForm.{SchemaForm}
 use Rattle.schema_form.specs.declared.form.Expression.{Expression}
@@ -47,29 +47,21 @@ no_lead table t s u own is leads = by_shape s (subst IsOwn is own) leads where
   by_shape _ own leads = own
 
 -- nor is it an identifier or a reference
-own_no_identifier : (o : Option Shape) → IsOwn o → is_identifier o ≡ false
-own_no_identifier None own = refl
-own_no_identifier (Some (shape.Model m)) own = refl
-own_no_identifier (Some _) own = absurd own
-
-no_first : (a b : Bool) → a && b ≡ true → a ≡ false → ⊥
-no_first true b h e = cc
-no_first false b h e = cc
-
-own_placed : (table : Table) (t : ℕ) → IsOwn (shape_at table t) → is_misplaced table t ≡ true → ⊥
-own_placed table t own h =
-    no_first (is_identifier (shape_at table t)) (not (of_property table t) || has_number t (second_types table table.models)) h
-    (own_no_identifier (shape_at table t) own)
-
 own_cases : (o : Option Shape) → IsOwn o → (o ≡ None) ⊎ ((m : ModelNo) × (o ≡ Some (shape.Model m)))
 own_cases None own = inl refl
 own_cases (Some (shape.Model m)) own = inr (m, refl)
 own_cases (Some _) own = absurd own
 
+own_placed : (table : Table) (t : ℕ) → IsOwn (shape_at table t) → is_misplaced table t ≡ true → ⊥
+own_placed table t own h = elim (own_cases (shape_at table t) own) [
+  | inl e ↦ let placed : is_misplaced table t ≡ false = rw e refl in cc
+  | inr model ↦ let placed : is_misplaced table t ≡ false = rw model.1 refl in cc
+]
+
 own_led : (table : Table) (t : ℕ) → IsOwn (shape_at table t) → misleads table t ≡ true → ⊥
 own_led table t own h = elim (own_cases (shape_at table t) own) [
-  | inl none ↦ let no = rw none at h in cc
-  | inr model ↦ let no = rw model.1 at h in cc
+  | inl e ↦ let led : misleads table t ≡ false = rw e refl in cc
+  | inr model ↦ let led : misleads table t ≡ false = rw model.1 refl in cc
 ]
 
 not_own : (table : Table) (t : ℕ) (rule : SchemaRule) → HasFault table t rule → IsOwn (shape_at table t) → ⊥
