@@ -3,5 +3,7 @@
 #![tactic(auto)]
 
 mod parts;
+mod roomy;
 
 pub use parts::Parts;
+pub use roomy::RoomyParts;

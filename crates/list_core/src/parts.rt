@@ -1,5 +1,9 @@
-ghost use Rattle.std.specs.Prelude.{◌≡◌, [], ◌∷◌, ◌++◌, ◌<◌, length, slice_get, slice_set, ◌↔◌, IsTrue, IfSome, IfNone, IfOk, OnOk, OnErr};
+ghost use Rattle.std.specs.Prelude.{◌≡◌, [], ◌∷◌, ◌++◌, ◌<◌, ◌≤◌, length, slice_get, slice_set, take, Some, ◌↔◌, IsTrue, IfSome, IfNone, OnOk, OnErr};
+ghost use Rattle.std.specs.Borrow.{sem};
+ghost use Rattle.std.specs.List.{insert, remove};
 ghost use Rattle.std.specs.Option.{option_copied};
+ghost use Rattle.list_core.specs.Outcome.{Gives};
+ghost use Rattle.list_core.specs.Lending.{LendsItem};
 
 use std::alloc::{AllocError, Global};
 use std::marker::Model;
@@ -78,6 +82,24 @@ impl<T> Parts<T> {
     {
         self.items.get(at)
     }
+
+    /// The item at an index, lent to be changed in its place.
+    pub fn item_mut(&mut self, at: usize) -> &mut T
+        requires { at < length self.old }
+        ensures* writes_back { sem 𝓛 (LendsItem T.row self.entry at result) }
+        ensures value { slice_get self.old at ≡ Some result.now }
+    {
+        &mut self.items[at]
+    }
+
+    /// Takes the item at `at` away. Those behind it move up.
+    pub fn remove(&mut self, at: usize) -> T
+        requires { at < length self.old }
+        ensures value { slice_get self.old at ≡ Some result }
+        ensures rest { self.new ≡ remove self.old at }
+    {
+        self.items.remove(at)
+    }
 }
 
 impl<T: Drop> Parts<T> {
@@ -97,6 +119,33 @@ impl<T: Drop> Parts<T> {
     {
         self.items.insert(0, part)?;
         Ok(())
+    }
+
+    /// Puts a part before the one at `at`, or at the end where `at` is the length. It is gone where memory
+    /// runs out.
+    pub fn insert(&mut self, at: usize, part: T) -> Result<(), AllocError>
+        requires { at ≤ length self.old }
+        ensures ok { OnOk result (self.new ≡ insert self.old at part) }
+        ensures err { OnErr result (self.new ≡ self.old) }
+    {
+        self.items.insert(at, part)?;
+        Ok(())
+    }
+
+    /// Moves the parts of another list to the end. They are gone where memory runs out.
+    pub fn extend(&mut self, others: Parts<T>) -> Result<(), AllocError>
+        ensures ok { OnOk result (self.new ≡ self.old ++ others) }
+        ensures err { OnErr result (self.new ≡ self.old) }
+    {
+        let mut items = others.into_vec();
+        self.items.append(&mut items)
+    }
+
+    /// Leaves the first `len` items; all of them where there are no more.
+    pub fn truncate(&mut self, len: usize)
+        ensures { self.new ≡ take len self.old }
+    {
+        self.items.truncate(len);
     }
 
     /// Puts a part in the place of the one at `at`.
@@ -119,7 +168,7 @@ impl<T: Drop> Parts<T> {
 impl<T: Copy> Parts<T> {
     /// A list of the same items.
     pub fn from_slice(alloc: Global, items: &[T]) -> Result<Parts<T>, AllocError>
-        ensures { IfOk result (λ copy. copy ≡ items.now) }
+        ensures { Gives result items.now }
     {
         Ok(Parts {
             items: Vec::from_slice(alloc, items)?,

@@ -1,9 +1,10 @@
 -- Which characters are escaped in a pointer's text: `~` and `/` alone.
-use Rattle.std.proofs.Common.{◌≡◌, ◌≢◌, ℕ, ◌+◌, ◌/◌, ◌≤◌, List, [], ◌∷◌, Bool, true, false, cond, refl, ap, ◌∙◌, arith}
+use Rattle.std.proofs.Common.{◌≡◌, ◌≢◌, ℕ, ◌+◌, ◌/◌, ◌≤◌, List, [], ◌∷◌, ◌++◌, Bool, true, false, cond, refl, sym, ap, ◌∙◌, append_assoc, arith}
 use Rattle.std.proofs.lemmas.Bool.{ne_eqb}
+use Rattle.std.proofs.lemmas.Grind.{flat_map-append}
 use lib.Dec.{ltb}
 use lib.Utf8.{encode, next}
-use Rattle.pointer_core.specs.Path.{escaped}
+use Rattle.pointer_core.specs.Path.{escaped, escaped_byte}
 
 byte_kept : (b : ℕ) (rest : List ℕ) → b ≢ 126 → b ≢ 47 → escaped (b ∷ rest) ≡ b ∷ escaped rest
 byte_kept b rest tilde slash = rw (ne_eqb b 126 tilde, ne_eqb b 47 slash) refl
@@ -41,3 +42,10 @@ character_kept c tilde slash =
     either_kept (ltb c 128) _ _ (byte_kept c [] tilde slash)
     (either_kept (ltb c 2048) _ _ (high_kept _ (two_high c))
     (either_kept (ltb c 65536) _ _ (high_kept _ (three_high c)) (high_kept _ (four_high c))))
+
+-- a piece of the token moves from what is left to what is written
+pub piece_written : (written piece rest left whole : List ℕ) → left ≡ piece ++ rest → written ++ escaped left ≡ whole → (written ++ escaped piece) ++ escaped rest ≡ whole
+piece_written written piece rest left whole parts held =
+    append_assoc written (escaped piece) (escaped rest)
+    ∙ ap (λ bytes. written ++ bytes) (sym (flat_map-append escaped_byte piece rest) ∙ ap escaped (sym parts))
+    ∙ held

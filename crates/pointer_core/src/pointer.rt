@@ -1,5 +1,6 @@
-ghost use Rattle.std.specs.Prelude.{◌≡◌, [], ◌∷◌, ◌++◌, length, slice_get, decimal, encode_utf8, OnOk, OnErr, IfOk};
+ghost use Rattle.std.specs.Prelude.{◌≡◌, [], ◌∷◌, ◌++◌, length, slice_get, decimal, encode_utf8, ◌↔◌, IsTrue, OnOk, OnErr};
 ghost use Rattle.std.specs.Option.{option_copied};
+ghost use Rattle.list_core.specs.Outcome.{Gives};
 ghost use Rattle.pointer_core.specs.Path.{printed, escaped};
 
 use list_core::Parts;
@@ -41,6 +42,31 @@ impl Pointer {
         self.tokens.len()
     }
 
+    /// Whether the pointer is the root's.
+    pub fn is_root(&self) -> bool
+        ensures { IsTrue result ↔ (self.now ≡ []) }
+    {
+        self.tokens.is_empty()
+    }
+
+    /// The tokens from the root on.
+    pub fn tokens(&self) -> &[Token]
+        ensures { result.now ≡ self.now }
+    {
+        self.tokens.as_slice()
+    }
+
+    /// An equal pointer, which takes its memory from where this one does.
+    pub fn clone_in(&self) -> Result<Pointer, AllocError>
+        ensures { Gives result self.now }
+    {
+        let mut copy = Pointer::new(self.tokens.allocator());
+        for token in self.tokens() {
+            copy.push(token.clone_in()?)?;
+        }
+        Ok(copy)
+    }
+
     /// The token at an index from the root, or none where there are not so many.
     pub fn get(&self, at: usize) -> Option<&Token>
         ensures { option_copied result ≡ slice_get self.now at }
@@ -58,7 +84,7 @@ impl Pointer {
 
     /// The pointer as it reads one level higher up, where `token` leads to what was its root.
     pub fn under(self, token: &str) -> Result<Pointer, AllocError>
-        ensures { IfOk result (λ longer. longer ≡ token.now ∷ self) }
+        ensures { Gives result (token.now ∷ self) }
     {
         let token = Txt::copy(self.tokens.allocator(), token)?;
         self.under_token(token)
@@ -66,14 +92,14 @@ impl Pointer {
 
     /// The same, where its root was the item of a list at `index`.
     pub fn under_index(self, index: usize) -> Result<Pointer, AllocError>
-        ensures { IfOk result (λ longer. longer ≡ decimal index ∷ self) }
+        ensures { Gives result (decimal index ∷ self) }
     {
         let token = format!(in self.tokens.allocator(); "{index}")?;
         self.under_token(Txt::from_string(token))
     }
 
     fn under_token(self, token: Token) -> Result<Pointer, AllocError>
-        ensures { IfOk result (λ longer. longer ≡ token ∷ self) }
+        ensures { Gives result (token ∷ self) }
     {
         let Pointer { mut tokens } = self;
         tokens.push_front(token)?;
@@ -82,7 +108,7 @@ impl Pointer {
 
     /// The pointer's text: nothing for the root, otherwise a `/` before each token.
     pub fn print(&self) -> Result<Txt, AllocError>
-        ensures { IfOk result (λ text. text ≡ printed self.now) }
+        ensures { Gives result (printed self.now) }
     {
         let mut text = Txt::new(self.tokens.allocator());
         for token in self.tokens.as_slice() {

@@ -1,7 +1,9 @@
 ghost use Rattle.std.specs.Prelude.{◌≡◌};
+ghost use Rattle.list_core.specs.Outcome.{Gives};
 ghost use Rattle.pointer_core.specs.Rule.{rule_name, rule_status};
 
 use crate::pointer::{Pointer, Token};
+use std::alloc::AllocError;
 
 /// Why a request is refused.
 #[derive(Debug, Drop)]
@@ -134,6 +136,53 @@ impl Rule {
         }
     }
 
+    /// An equal rule.
+    pub fn clone_in(&self) -> Result<Rule, AllocError>
+        ensures { Gives result self.now }
+    {
+        match self {
+            Rule::Syntax => Ok(Rule::Syntax),
+            Rule::Shape => Ok(Rule::Shape),
+            Rule::Pointer => Ok(Rule::Pointer),
+            Rule::Head => Ok(Rule::Head),
+            Rule::Whole => Ok(Rule::Whole),
+            Rule::Path => Ok(Rule::Path),
+            Rule::Unknown => Ok(Rule::Unknown),
+            Rule::Method => Ok(Rule::Method),
+            Rule::Operation => Ok(Rule::Operation),
+            Rule::Index => Ok(Rule::Index),
+            Rule::Fixed => Ok(Rule::Fixed),
+            Rule::Alive => Ok(Rule::Alive),
+            Rule::Protected => Ok(Rule::Protected),
+            Rule::Kind => Ok(Rule::Kind),
+            Rule::Range => Ok(Rule::Range),
+            Rule::Dead => Ok(Rule::Dead),
+            Rule::Thrown(reason) => Ok(Rule::Thrown(reason.clone_in()?)),
+            Rule::Budget => Ok(Rule::Budget),
+            Rule::Work => Ok(Rule::Work),
+            Rule::Guarded => Ok(Rule::Guarded),
+            Rule::Arguments => Ok(Rule::Arguments),
+            Rule::Calls => Ok(Rule::Calls),
+            Rule::Reference => Ok(Rule::Reference),
+            Rule::Cycle => Ok(Rule::Cycle),
+            Rule::Deep => Ok(Rule::Deep),
+            Rule::History => Ok(Rule::History),
+            Rule::Group => Ok(Rule::Group),
+            Rule::Exists => Ok(Rule::Exists),
+            Rule::Full => Ok(Rule::Full),
+            Rule::Body => Ok(Rule::Body),
+            Rule::Mistyped => Ok(Rule::Mistyped),
+            Rule::Refine => Ok(Rule::Refine),
+            Rule::Key => Ok(Rule::Key),
+            Rule::Identifier => Ok(Rule::Identifier),
+            Rule::Large => Ok(Rule::Large),
+            Rule::Fields => Ok(Rule::Fields),
+            Rule::Memory => Ok(Rule::Memory),
+            Rule::Coding => Ok(Rule::Coding),
+            Rule::Storage => Ok(Rule::Storage),
+        }
+    }
+
     /// The HTTP status of a reply that names the rule.
     pub fn status(&self) -> u16
         ensures { result ≡ rule_status self.now }
@@ -178,4 +227,16 @@ impl Rule {
 pub struct Refusal {
     pub path: Pointer,
     pub rule: Rule,
+}
+
+impl Refusal {
+    /// An equal refusal, which takes its memory from where this one does.
+    pub fn clone_in(&self) -> Result<Refusal, AllocError>
+        ensures { Gives result self.now }
+    {
+        Ok(Refusal {
+            path: self.path.clone_in()?,
+            rule: self.rule.clone_in()?,
+        })
+    }
 }

@@ -1,4 +1,6 @@
 pub mod Views
 pub mod Keys
 pub mod Finding
+pub mod Searching
 pub mod Examples
+pub mod Levels

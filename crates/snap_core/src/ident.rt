@@ -1,4 +1,5 @@
-ghost use Rattle.std.specs.Prelude.{◌≡◌, ◌↔◌, IsTrue, IfOk};
+ghost use Rattle.std.specs.Prelude.{◌≡◌, ◌↔◌, IsTrue};
+ghost use Rattle.list_core.specs.Outcome.{Gives};
 
 use crate::text::Txt;
 use std::alloc::AllocError;
@@ -14,7 +15,7 @@ pub enum Ident {
 impl Ident {
     /// An equal identifier.
     pub fn clone_in(&self) -> Result<Ident, AllocError>
-        ensures { IfOk result (λ copy. copy ≡ self.now) }
+        ensures { Gives result self.now }
     {
         match self {
             Ident::Text(text) => Ok(Ident::Text(text.clone_in()?)),

@@ -1,6 +1,7 @@
 ghost use Rattle.std.specs.Prelude.{◌≡◌, ◌↔◌, false, IsTrue, IfOk, IsErrOf};
 ghost use Rattle.std.specs.List.{list_all};
 ghost use Rattle.snap_core.specs.Name.{is_name, is_name_byte};
+ghost use Rattle.list_core.specs.Outcome.{Gives};
 
 use crate::text::Txt;
 use std::alloc::{AllocError, Global};
@@ -37,7 +38,7 @@ impl Model for Name {
 impl Name {
     /// Reads a name.
     pub fn read(alloc: Global, text: &str) -> Result<Name, NameError>
-        ensures ok { IfOk result (λ name. name ≡ text.now) }
+        ensures ok { Gives result text.now }
         ensures bad { IsErrOf result NameError.BadName ↔ (is_name text.now ≡ false) }
         ensures named { IfOk result (λ name. IsTrue (is_name name)) }
     {
@@ -58,7 +59,7 @@ impl Name {
 
     /// An equal name.
     pub fn clone_in(&self, alloc: Global) -> Result<Name, AllocError>
-        ensures { IfOk result (λ copy. copy ≡ self.now) }
+        ensures { Gives result self.now }
     {
         let text = Txt::copy(alloc, self.text())?;
         Ok(Name { text })

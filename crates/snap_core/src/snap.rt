@@ -1,6 +1,7 @@
-ghost use Rattle.std.specs.Prelude.{◌≡◌, ◌+◌, ◌↔◌, IsTrue, IfOk, min};
+ghost use Rattle.std.specs.Prelude.{◌≡◌, ◌+◌, ◌↔◌, IsTrue, min};
 ghost use Rattle.snap_core.specs.Value.{weight_of, depth_of, parts_weight, members_weight, parts_depth, members_depth};
 ghost use Rattle.snap_core.specs.View.{view, items_view, fields_view};
+ghost use Rattle.list_core.specs.Outcome.{Gives};
 
 use crate::text::Txt;
 use list_core::Parts;
@@ -34,7 +35,7 @@ impl Snap {
     /// An equal value.
     #[cycle(copy)]
     pub fn clone_in(&self, alloc: Global) -> Result<Snap, AllocError>
-        ensures { IfOk result (λ copy. copy ≡ self.now) }
+        ensures { Gives result self.now }
     {
         match self {
             Snap::Null => Ok(Snap::Null),
@@ -172,7 +173,7 @@ fn deepest_field(fields: &[Field], most: u64) -> u64
 
 #[cycle(copy)]
 fn copy_items(alloc: Global, items: &Items) -> Result<Items, AllocError>
-    ensures { IfOk result (λ copy. copy ≡ items.now) }
+    ensures { Gives result items.now }
 {
     let mut copy = Parts::new(alloc);
     for item in items.as_slice() {
@@ -183,7 +184,7 @@ fn copy_items(alloc: Global, items: &Items) -> Result<Items, AllocError>
 
 #[cycle(copy)]
 fn copy_fields(alloc: Global, fields: &Fields) -> Result<Fields, AllocError>
-    ensures { IfOk result (λ copy. copy ≡ fields.now) }
+    ensures { Gives result fields.now }
 {
     let mut copy = Parts::new(alloc);
     for field in fields.as_slice() {

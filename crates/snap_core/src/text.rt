@@ -1,5 +1,6 @@
-ghost use Rattle.std.specs.Prelude.{◌≡◌, [], ◌++◌, length, encode_utf8, IfOk, OnOk, OnErr};
+ghost use Rattle.std.specs.Prelude.{◌≡◌, [], ◌++◌, length, encode_utf8, OnOk, OnErr};
 ghost use Rattle.std.specs.String.{string_bytes};
+ghost use Rattle.list_core.specs.Outcome.{Gives};
 
 use list_core::Parts;
 use std::alloc::{AllocError, Global};
@@ -42,7 +43,7 @@ impl Txt {
 
     /// The same text on the heap.
     pub fn copy(alloc: Global, text: &str) -> Result<Txt, AllocError>
-        ensures { IfOk result (λ copy. copy ≡ text.now) }
+        ensures { Gives result text.now }
     {
         Ok(Txt {
             text: String::from_str(alloc, text)?,
@@ -81,7 +82,7 @@ impl Txt {
 
     /// An equal text, which takes its memory from where this one does.
     pub fn clone_in(&self) -> Result<Txt, AllocError>
-        ensures { IfOk result (λ copy. copy ≡ self.now) }
+        ensures { Gives result self.now }
     {
         Txt::copy(*self.text.allocator(), self.text())
     }

@@ -1,0 +1,4 @@
+pub mod Steps
+pub mod Inverses
+pub mod Ordered
+pub mod TakenBack

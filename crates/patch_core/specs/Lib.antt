@@ -1,0 +1,5 @@
+pub mod Place
+pub mod Application
+pub mod Fits
+pub mod Inverse
+pub mod Laws

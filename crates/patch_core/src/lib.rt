@@ -1,0 +1,10 @@
+//! Patches: changes of a value at one place, each of which can be taken back.
+#![tactic(auto)]
+
+mod error;
+mod laws;
+mod patch;
+
+pub use error::PatchError;
+pub use laws::{changes_are_taken_back, inverse_leads_back};
+pub use patch::{Patch, PatchOp};

@@ -1,0 +1,23 @@
+use pointer_core::Pointer;
+use snap_core::Snap;
+
+/// What a patch does at its place.
+#[derive(Clone, Copy, Debug, PartialEq, Eq)]
+pub enum PatchOp {
+    /// Sets a key, or puts an item in.
+    Add,
+    /// Sets what is held.
+    Replace,
+    /// Takes out what is held.
+    Remove,
+}
+
+/// A change of a value at one place. It has the value that an `Add` or a `Replace` writes. It can be taken back
+/// where it has the old value that a `Replace` or a `Remove` finds.
+#[derive(Debug, Drop)]
+pub struct Patch {
+    pub op: PatchOp,
+    pub path: Pointer,
+    pub value: Option<Snap>,
+    pub old: Option<Snap>,
+}
