@@ -21,14 +21,12 @@ use Rattle.top_call.specs.Exit.{exit_code}
 use Rattle.top_call.specs.Link.{AnswersBytes, written_for, status_for, reading_reply}
 use Rattle.pointer_core.specs.declared.schema_rule.SchemaRule.{SchemaRule}
 use Rattle.snap_json.specs.Loose.{loosely}
-use Rattle.type_core.specs.Sound.{IsSound}
 use Rattle.expr_core.specs.Schema.{Schema}
 use Rattle.schema_read.specs.Schema.{IsSchema, Spells}
 use Rattle.top_call.specs.Words.{Command, check, run, name_in}
 use Rattle.top_call.specs.Serving.{most_bytes, Served, AnswersLink, EndsWith}
 use Rattle.top_call.specs.Run.{Run, Files, IfFile, IfSchemaFile, IsTooLong, IsFileOf, IsSchemaOf, IsNoJson, IsFaulty, IsAnswered, Causes, FileIsGiven, SchemaIsGiven, RequestIsGiven, IsReplied, IsRun, IsCheck}
-use Rattle.schema_read.proofs.LawLemmas.{schema_has_no_fault}
-use Rattle.top_call.proofs.Same.{answers-alike}
+use Rattle.schema_read.proofs.LawLemmas.{schema_has_no_fault, file_is_one_schema}
 
 -- a body's length is at most 262,144
 guarded : (b : Bool) (n m : ℕ) → cond b (Some n) None ≡ Some m → (b ≡ true) × (n ≡ m)
@@ -151,12 +149,10 @@ answered_given : (r : Run) (types : Catalog) (body : List ℕ) (given : RequestI
 answered_given r types body given status answered =
     let ours : IsSchemaOf answered.types given.file =
     of_file r.world_before.files given.name given.file (IsSchemaOf answered.types) given.given (of_named r (run given.name) (IsSchemaOf answered.types) given.named answered.schema) in
-    let theirs : Schema = given.schema.0 in
-    let sound : IsSound ours.0.types = subst IsSound (sym ours.2) answered.sound in
+    let one : ours.0 ≡ given.schema.0 = file_is_one_schema given.file ours.0 given.schema.0 ours.1.spells given.schema.1.spells in
+    let same : answered.types ≡ types = sym ours.2 ∙ ap (λ (schema : Schema). schema.types) one ∙ given.schema.2 in
     let replies : reading_reply answered.types (reading body) ≡ reading_reply types (reading body) =
-    ap (λ (types : Catalog). reading_reply types (reading body)) (sym ours.2)
-    ∙ answers-alike given.file ours.0 theirs ours.1.spells given.schema.1.spells sound (reading body)
-    ∙ ap (λ (types : Catalog). reading_reply types (reading body)) given.schema.2 in
+    ap (λ (types : Catalog). reading_reply types (reading body)) same in
     let ends : BothTold (EndsWith answered.types status) (Some given.links) r.door_after.links =
     subst (λ o. BothTold (EndsWith answered.types status) o r.door_after.links) given.links_told answered.ends in
     let gets : (status ≡ 0) × Replied (reading_reply answered.types (reading body)) (Some given.links) r.door_after.links =

@@ -3,9 +3,7 @@ pub mod Ends
 pub mod Exits
 pub mod Grammar
 pub mod Links
-pub mod Row
 pub mod Runs
-pub mod Same
 pub mod Says
 pub mod StatusLaws
 pub mod Statuses

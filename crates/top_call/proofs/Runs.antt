@@ -112,13 +112,16 @@ link-not-early DoorFailed link early = early
 link-not-early Memory link early = early
 link-not-early exit link early = link
 
+same_error : (a b : Exit) → IsErrOf {T = Schema} (Err a) b → a ≡ b
+same_error a b e = cc
+
 -- a file that was loaded was asked for, and one that wasn't was too, unless memory ran out
 pub asks-loaded : (command : Command) (schema : Schema) (exit : Exit) (w v : WorldState)
-    → AsksFor (name_in command) w v ⊎ (IsErrOf {A = Schema} (Ok schema) Memory × (v ≡ w)) → AsksForSchema (Some command) exit w v
+    → AsksFor (name_in command) w v ⊎ (IsErrOf {T = Schema} (Ok schema) Memory × (v ≡ w)) → AsksForSchema (Some command) exit w v
 asks-loaded command schema exit w v (inl asks) = inl asks
-asks-loaded command schema exit w v (inr early) = absurd early.0
+asks-loaded command schema exit w v (inr early) = absurd (let e : Ok schema ≡ Err Memory = early.0 in cc)
 
 pub asks-refused : (command : Command) (exit : Exit) (w v : WorldState)
-    → AsksFor (name_in command) w v ⊎ (IsErrOf {A = Schema} (Err exit) Memory × (v ≡ w)) → AsksForSchema (Some command) exit w v
+    → AsksFor (name_in command) w v ⊎ (IsErrOf {T = Schema} (Err exit) Memory × (v ≡ w)) → AsksForSchema (Some command) exit w v
 asks-refused command exit w v (inl asks) = inl asks
-asks-refused command exit w v (inr early) = inr (early.0, early.1)
+asks-refused command exit w v (inr early) = inr (same_error exit Memory early.0, early.1)

@@ -1,5 +1,5 @@
 -- What each status tells of a run, from how the run ends.
-use Rattle.std.proofs.Common.{◌≡◌, ℕ, ◌≤◌, ◌⊎◌, inl, inr, List, [], ◌∷◌, ◌++◌, codes, append-nil, IsTrue, Option, Some, None, option_map, refl, sym, ◌∙◌, ap, subst, arith}
+use Rattle.std.proofs.Common.{◌≡◌, ℕ, ◌≤◌, ◌⊎◌, inl, inr, List, [], ◌∷◌, ◌++◌, codes, append-nil, IsTrue, true, false, Option, Some, None, option_map, refl, sym, ◌∙◌, ap, subst, arith}
 use Rattle.std.specs.Prelude.{IsSomeAnd, IsSome}
 use Rattle.edge_core.specs.World.{WorldState, WorldHasFailed, Gets}
 use Rattle.edge_core.specs.Door.{Links, DoorState, DoorHasFailed}
@@ -23,17 +23,33 @@ until r told = record r { world_after = told }
 served_after : (r : Run) (told : WorldState) (So : Catalog → Links → Links → Type 0) → IsServed (until r told) So → IsServed r So
 served_after r told So x = record { is_run = x.is_run; types = x.types; sound = x.sound; schema = x.schema; ends = x.ends }
 
+no_some : (c : Option Command) → IsSome c → c ≡ None → ⊥
+no_some None some none = (let e : false ≡ true = some in cc)
+no_some (Some c) some none = cc
+
+no_named : (c : Option Command) (P : Command → Type 0) → IsSomeAnd c P → c ≡ None → ⊥
+no_named None P there none = there
+no_named (Some c) P there none = cc
+
+no_check : (c : Option Command) → IsCheck c → c ≡ None → ⊥
+no_check None is none = is
+no_check (Some c) is none = cc
+
+no_run : (c : Option Command) → IsRun c → c ≡ None → ⊥
+no_run None is none = is
+no_run (Some c) is none = cc
+
 -- other words have no other cause than that of 2
 none_code : (r : Run) (exit : Exit) → Causes r exit → r.command ≡ None → exit_code exit ≡ 2
 none_code r Usage cause none = refl
-none_code r Unread cause none = absurd (subst IsSome none cause.0)
-none_code r Syntax cause none = absurd (subst (λ (c : Option Command). IsSomeAnd c _) none cause)
-none_code r (Refused pointer rule) cause none = absurd (subst (λ (c : Option Command). IsSomeAnd c _) none cause)
-none_code r Checked cause none = absurd (subst IsCheck none cause.0)
-none_code r Done cause none = absurd (subst IsRun none cause.is_run)
-none_code r Inside cause none = absurd (subst IsRun none cause.is_run)
-none_code r DoorFailed cause none = absurd (subst IsRun none cause.1.is_run)
-none_code r Memory cause none = absurd (subst IsSome none cause)
+none_code r Unread cause none = absurd (no_some r.command cause.0 none)
+none_code r Syntax cause none = absurd (no_named r.command _ cause none)
+none_code r (Refused pointer rule) cause none = absurd (no_named r.command _ cause none)
+none_code r Checked cause none = absurd (no_check r.command cause.0 none)
+none_code r Done cause none = absurd (no_run r.command cause.is_run none)
+none_code r Inside cause none = absurd (no_run r.command cause.is_run none)
+none_code r DoorFailed cause none = absurd (no_run r.command cause.1.is_run none)
+none_code r Memory cause none = absurd (no_some r.command cause none)
 
 -- the cause of each code
 usage_of : (r : Run) (exit : Exit) → Causes r exit → exit_code exit ≡ 2 → r.command ≡ None
@@ -51,9 +67,9 @@ refused_of r told (Refused pointer rule) cause code gets = inr (record { pointer
 refused_of r told exit cause code gets = absurd (omega (arith, code))
 
 not_both : (c : Option Command) → IsCheck c → IsRun c → ⊥
-not_both None check run = check
-not_both (Some (check name)) check run = run
-not_both (Some (run name)) check run = check
+not_both None one other = one
+not_both (Some (check name)) one other = other
+not_both (Some (run name)) one other = one
 
 checked_of : (r : Run) (exit : Exit) → Causes r exit → IsCheck r.command → exit_code exit ≡ 0 → exit ≡ Checked
 checked_of r Checked cause is code = refl
@@ -175,7 +191,8 @@ module _ (r : Run) (status : ℕ) (ends : Ends r status) where
   ]
     where
       ten_code : (exit : Exit) → exit_code exit ≡ 10 → ⊥
-      ten_code exit code = omega (arith, code)
+      ten_code Done ten = omega (arith, ten)
+      ten_code exit ten = omega (arith, ten)
 
   pub told-law : ¬ (status ≡ 10)
       → (exit : Exit) × Tells (record { command = r.command; exit = exit; status = status }) r.world_before r.world_after
