@@ -12,7 +12,7 @@ use Rattle.httparse.specs.Spans.{name_and_value}
 use Rattle.http_front.specs.Head.{is_check, is_plain, number_of, written_length, only_length, values_of, body_length}
 use Rattle.http_front.proofs.LawLemmas.{whole_is_only}
 use Rattle.edge_core.specs.World.{WorldState, WorldHasFailed}
-use Rattle.edge_core.specs.Door.{Links, DoorState, DoorHasFailed, BothTold}
+use Rattle.edge_core.specs.Door.{Links, DoorHasFailed, BothTold}
 use Rattle.snap_json.specs.Reading.{reading}
 use Rattle.type_core.specs.Table.{Catalog}
 use Rattle.top_call.specs.declared.exit.Exit.{Exit}

@@ -1,12 +1,11 @@
 -- From a run and its report to how the run ends, and what frames it.
-use Rattle.std.proofs.Common.{◌≡◌, ℕ, ◌≤◌, ◌⊎◌, inl, inr, List, [], ◌∷◌, ◌++◌, Option, Some, None, refl, sym, ◌∙◌, ap, subst, lit<, arith}
+use Rattle.std.proofs.Common.{◌≡◌, ℕ, ◌≤◌, ◌⊎◌, inl, inr, List, [], ◌∷◌, Option, Some, None, refl, sym, ◌∙◌, ap, subst, lit<, arith}
 use Rattle.std.specs.Prelude.{Contains}
 use Rattle.edge_core.specs.World.{WorldState, KeepsFiles, Gets}
 use Rattle.edge_core.specs.Door.{DoorState}
-use Rattle.edge_core.specs.declared.door.AskedPort.{AskedPort}
 use Rattle.top_call.specs.declared.exit.Exit.{Exit}
 use Rattle.top_call.specs.declared.exit.Exit.TheVariants.{Done, Checked, Usage, Unread, Syntax, Refused, DoorFailed, Memory, Inside}
-use Rattle.top_call.specs.Words.{Command, name_in}
+use Rattle.top_call.specs.Words.{Command}
 use Rattle.top_call.specs.Exit.{exit_code, told_err, told_out}
 use Rattle.top_call.specs.Report.{Ending, Tells, Reports}
 use Rattle.top_call.specs.Run.{Run, Causes, LeavesDoor, AsksForSchema, AsksForNoOther, AsksForNoPort, Ends}

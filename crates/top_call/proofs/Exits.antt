@@ -11,8 +11,8 @@ use Rattle.top_call.specs.declared.answer.End.TheVariants as end
 use Rattle.top_call.specs.declared.exit.Exit.{Exit}
 use Rattle.top_call.specs.declared.exit.Exit.TheVariants.{Done, DoorFailed, Memory, Inside}
 use Rattle.top_call.specs.Link.{AnswersBytes, IsDue, end_status, memory_reply}
-use Rattle.top_call.specs.Serving.{most_bytes, BringsAll, BringsSome, TakesPart, Served, Exchanges, Way, AnswersBy, IsAnswer, BreaksBy, RunsOutBy, EndsBroken}
-use Rattle.top_call.specs.ServingInside.{ExitsOpen, Exits, ShutsAfter, exit_of, WritesBy, IfDoorFailed, FailsToAttach, LeavesServed}
+use Rattle.top_call.specs.Serving.{most_bytes, BringsAll, BringsSome, TakesPart, Served, Exchanges, Way, AnswersBy, IsAnswer, BreaksBy, RunsOutBy}
+use Rattle.top_call.specs.ServingInside.{ExitsOpen, Exits, ShutsAfter, exit_of, WritesBy, IfDoorFailed, LeavesServed}
 use Rattle.top_call.proofs.Links.{same_link}
 use Rattle.top_call.proofs.Told.{both-map, both-then}
 

@@ -1,6 +1,6 @@
 -- From what a run loads and serves to the causes of its exit.
-use Rattle.std.proofs.Common.{◌≡◌, ℕ, ◌≤◌, ◌⊎◌, List, ◌∷◌, [], ◌++◌, Option, Some, None, Ok, Err, inl, inr, refl, sym, ◌∙◌, ap, subst}
-use Rattle.std.specs.Prelude.{IsSomeAnd, IsErrOf, Result}
+use Rattle.std.proofs.Common.{◌≡◌, ℕ, ◌⊎◌, List, Option, Some, None, Ok, Err, inl, inr, refl, sym, subst}
+use Rattle.std.specs.Prelude.{IsSomeAnd, IsErrOf}
 use Rattle.edge_core.specs.World.{WorldState, AsksFor, file_of}
 use Rattle.edge_core.specs.Door.{Links, DoorState, BothTold}
 use Rattle.type_core.specs.Sound.{IsSound}
@@ -9,8 +9,8 @@ use Rattle.expr_core.specs.Schema.{Schema}
 use Rattle.top_call.specs.declared.exit.Exit.{Exit}
 use Rattle.top_call.specs.declared.exit.Exit.TheVariants.{Done, Checked, Usage, Unread, Syntax, Refused, DoorFailed, Memory, Inside}
 use Rattle.top_call.specs.Serving.{EndsWith, EndsBroken, RunsOut}
-use Rattle.top_call.specs.ServingInside.{ServesDoor, FailsToAttach, LeavesServed, IfDoorFailed, IsOfLink}
-use Rattle.top_call.specs.Words.{Command, check, run, name_in}
+use Rattle.top_call.specs.ServingInside.{ServesDoor, LeavesServed, IfDoorFailed, IsOfLink}
+use Rattle.top_call.specs.Words.{Command, run, name_in}
 use Rattle.top_call.specs.Run.{Run, Files, IfFile, IsFileOf, IsSchemaOf, IsServed, Causes, LeavesDoor, AsksForSchema}
 use Rattle.top_call.specs.RunInside.{IsBeforeDoor, IsEarly, Loads}
 use Rattle.top_call.proofs.Exits.{stays-faulty}

@@ -1,16 +1,16 @@
 -- What each status tells of a run, from how the run ends.
-use Rattle.std.proofs.Common.{◌≡◌, ℕ, ◌≤◌, ◌⊎◌, inl, inr, List, [], ◌∷◌, ◌++◌, codes, append-nil, IsTrue, true, false, Option, Some, None, option_map, refl, sym, ◌∙◌, ap, subst, arith}
+use Rattle.std.proofs.Common.{◌≡◌, ℕ, ◌⊎◌, inl, inr, List, [], codes, append-nil, IsTrue, true, false, Option, Some, None, refl, sym, ◌∙◌, ap, subst, arith}
 use Rattle.std.specs.Prelude.{IsSomeAnd, IsSome}
 use Rattle.edge_core.specs.World.{WorldState, WorldHasFailed, Gets}
-use Rattle.edge_core.specs.Door.{Links, DoorState, DoorHasFailed}
+use Rattle.edge_core.specs.Door.{Links, DoorHasFailed}
 use Rattle.snap_json.specs.Reading.{reading}
 use Rattle.type_core.specs.Table.{Catalog}
 use Rattle.top_call.specs.declared.exit.Exit.{Exit}
 use Rattle.top_call.specs.declared.exit.Exit.TheVariants.{Done, Checked, Usage, Unread, Syntax, Refused, DoorFailed, Memory, Inside}
 use Rattle.top_call.specs.Words.{Command, check, run}
-use Rattle.top_call.specs.Exit.{exit_code, told_err, told_out}
+use Rattle.top_call.specs.Exit.{exit_code, told_err}
 use Rattle.top_call.specs.Link.{reading_reply}
-use Rattle.top_call.specs.Report.{Tells, Reports}
+use Rattle.top_call.specs.Report.{Tells}
 use Rattle.top_call.specs.Run.{Run, Ends, Causes, LeavesDoor, IsRun, IsCheck, IsServed, IsAnswered, IsBroken, IsOutOfMemory, IfSchemaFile, IsTooLong, IsSchemaFile, Refuses, SchemaIsGiven, RequestIsGiven, IsReplied}
 use Rattle.top_call.proofs.Exits.{risen-longer}
 use Rattle.top_call.proofs.Ends.{ends-told, ends-code, ends-rises}

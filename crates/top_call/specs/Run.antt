@@ -1,5 +1,5 @@
 -- One run of the program: which outcome has which cause.
-use Rattle.std.specs.Prelude.{◌≡◌, ℕ, ◌<◌, ◌≤◌, ◌⊎◌, List, [], ◌∷◌, ◌++◌, length, codes, Bool, IsTrue, Option, Some, None, Result, Ok, Err, IsSome, IsSomeAnd, ⊤}
+use Rattle.std.specs.Prelude.{◌≡◌, ℕ, ◌<◌, ◌≤◌, ◌⊎◌, List, [], ◌∷◌, ◌++◌, length, codes, IsTrue, Option, Some, None, IsSome, IsSomeAnd, ⊤}
 use Rattle.edge_core.specs.World.{WorldState, WorldHasFailed, AsksFor, KeepsFiles, Gets, file_of}
 use Rattle.edge_core.specs.Door.{Links, DoorState, DoorHasFailed, BothTold, asked_also}
 use Rattle.edge_core.specs.declared.door.AskedPort.{AskedPort}
@@ -16,7 +16,7 @@ use Rattle.top_call.specs.Words.{Command, check, run, name_in}
 use Rattle.top_call.specs.declared.exit.Exit.{Exit}
 use Rattle.top_call.specs.declared.exit.Exit.TheVariants.{Done, Checked, Usage, Unread, Syntax, Refused, DoorFailed, Memory, Inside}
 use Rattle.top_call.specs.Serving.{Served, EndsWith, EndsBroken, RunsOut, AsksForStreams}
-use Rattle.top_call.specs.Report.{Ending, Reports}
+use Rattle.top_call.specs.Report.{Reports}
 
 -- a run of the program: its command, if the words are one, and what the world and the door told before it and after it
 pub record Run : Type 0 where

@@ -1,6 +1,6 @@
 -- What serving one link leaves of a door's links.
-use Rattle.std.specs.Prelude.{◌≡◌, ℕ, ◌<◌, ◌≤◌, ◌⊎◌, List, [], ◌∷◌, ◌++◌, length, Option, Some, None}
-use Rattle.edge_core.specs.Door.{Links, DoorState, BothTold, Writes, asked_also}
+use Rattle.std.specs.Prelude.{◌≡◌, ℕ, ◌<◌, ◌≤◌, ◌⊎◌, List, [], ◌∷◌, ◌++◌, length, Some, None}
+use Rattle.edge_core.specs.Door.{Links, DoorState, Writes, asked_also}
 use Rattle.type_core.specs.Table.{Catalog}
 use Rattle.top_call.specs.Link.{AnswersBytes, IsDue, memory_reply}
 

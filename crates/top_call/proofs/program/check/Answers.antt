@@ -1,5 +1,4 @@
 -- What ends a load comes before the door.
-use Rattle.edge_core.specs.Door.{DoorState}
 use Rattle.top_call.specs.Words.{check}
 use Rattle.top_call.specs.declared.exit.Exit.TheVariants.{Checked}
 use Rattle.top_call.proofs.Runs.{before-door, loads-causes, asks-loaded, asks-refused}

@@ -1,5 +1,4 @@
 -- The exit of the run is reported.
-use Rattle.std.proofs.Common.{◌≡◌}
 use Rattle.std.specs.Option.{option_map}
 use Rattle.top_call.specs.Words.{command_of, seen}
 use Rattle.top_call.specs.Run.{Run, Ends}

@@ -1,5 +1,5 @@
 -- What is served is what was loaded.
-use Rattle.std.proofs.Common.{◌≡◌, ◌∙◌, refl, ap, subst}
+use Rattle.std.proofs.Common.{◌∙◌, refl, ap, subst}
 use Rattle.type_core.specs.Sound.{IsSound}
 use Rattle.expr_core.specs.Schema.{Schema}
 use Rattle.top_call.specs.Words.{run}

@@ -1,8 +1,6 @@
 -- Each exit has its message.
 use Rattle.std.proofs.Common.{ℕ, List, ◌++◌, codes, OnOk, append-nil, subst, ◌∙◌}
 use Rattle.edge_core.specs.World.{Gets}
-use Rattle.top_call.specs.Exit.{told_out}
-use Rattle.top_call.specs.declared.exit.Exit.TheVariants.{Checked}
 use Rattle.top_call.proofs.report.tell.Goals as goal
 
 pub returns-in-Usage-clause-err : goal.returns-in-Usage-clause-err
