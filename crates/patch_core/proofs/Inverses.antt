@@ -29,7 +29,7 @@ part_back Add token (Some v) None t ordered has fits =
       after = after;
       leads = edited-add token fits.0 v t fits.1 fits.2;
       fits = part_under-at token fits.0 after v is held;
-      leads_back = edited-remove token fits.0 null after v is held ∙ ap Ok (remove_child-insert_child fits.0 v t fits.2)
+      leads_back = edited-remove token fits.0 null after v is held ∙ ap Ok (remove_child-insert_child fits.0 v t fits.2);
     }
 part_back Replace token (Some v) (Some old) t ordered has fits =
     let to = step_to token t old fits in
@@ -40,7 +40,7 @@ part_back Replace token (Some v) (Some old) t ordered has fits =
       after = after;
       leads = edited-replace token to.step v t old to.is to.part;
       fits = part_under-at token to.step after v is held;
-      leads_back = edited-replace token to.step old after v is held ∙ ap Ok (set_child-set_child to.step v old t ∙ set_child-same to.step old t to.part)
+      leads_back = edited-replace token to.step old after v is held ∙ ap Ok (set_child-set_child to.step v old t ∙ set_child-same to.step old t to.part);
     }
 part_back Remove token None (Some old) t ordered has fits =
     let to = step_to token t old fits in
@@ -51,7 +51,7 @@ part_back Remove token None (Some old) t ordered has fits =
       after = after;
       leads = edited-remove token to.step null t old to.is to.part;
       fits = (to.step, is, room);
-      leads_back = edited-add token to.step old after is room ∙ ap Ok (insert_child-remove_child to.step old t ordered to.part)
+      leads_back = edited-add token to.step old after is room ∙ ap Ok (insert_child-remove_child to.step old t ordered to.part);
     }
 part_back op token value old t ordered has fits = absurd has
 
@@ -85,5 +85,5 @@ path_back op (token ∷ next ∷ rest) value old t ordered has fits =
       leads = changed-inside op token next rest (unwrap_or value null) t c b.after to.step to.is to.part b.leads;
       fits = (b.after, part_under-at token to.step after b.after is held, b.fits);
       leads_back = changed-inside (opposite op) token next rest (unwrap_or old null) after b.after c to.step is held b.leads_back
-        ∙ ap Ok (set_child-set_child to.step b.after c t ∙ set_child-same to.step c t to.part)
+          ∙ ap Ok (set_child-set_child to.step b.after c t ∙ set_child-same to.step c t to.part);
     }

@@ -36,9 +36,9 @@ pub record StepTo {A : Type 0} (token : List ℕ) (t c : Tree A) : Type 0 where
 
 pub step_to : {A : Type 0} (token : List ℕ) (t c : Tree A) → part_under token t ≡ Some c → StepTo token t c
 step_to {A} token t c named = elim (step_of token t) as (λ o. step_of token t ≡ o → option_and_then (λ s. child s t) o ≡ Some c → StepTo token t c) [
-    | None ↦ λ is found. cc
-    | Some step ↦ λ is found. record { step = step; is = is; part = found }
-  ] refl named
+  | None ↦ λ is found. cc
+  | Some step ↦ λ is found. record { step = step; is = is; part = found }
+] refl named
 
 pub part_under-at : {A : Type 0} (token : List ℕ) (step : Step) (t c : Tree A) → step_of token t ≡ Some step → child step t ≡ Some c → part_under token t ≡ Some c
 part_under-at token step t c is found = rw is found
@@ -56,9 +56,9 @@ is_new i length token is within = same_key token (codes "-")
 
 index_step : (token : List ℕ) (step : Step) → option_map at_index (index_of token) ≡ Some step → (i : ℕ) × (index_of token ≡ Some i) × (step ≡ at_index i)
 index_step token step is = elim (index_of token) as (λ o. index_of token ≡ o → option_map at_index o ≡ Some step → (i : ℕ) × (index_of token ≡ Some i) × (step ≡ at_index i)) [
-    | None ↦ λ e h. cc
-    | Some i ↦ λ e h. let same : at_index i ≡ step = cc in (i, e, sym same)
-  ] refl is
+  | None ↦ λ e h. cc
+  | Some i ↦ λ e h. let same : at_index i ≡ step = cc in (i, e, sym same)
+] refl is
 
 pub edited-add : {A : Type 0} (token : List ℕ) (step : Step) (v t : Tree A) → step_of token t ≡ Some step → CanInsert step t → edited Add token v t ≡ Ok (insert_child step v t)
 edited-add {A} token step v (list a ps) is room =

@@ -1,3 +1,7 @@
+ghost use Rattle.std.specs.Prelude.{◌≡◌, IsSome};
+ghost use Rattle.snap_core.specs.View.{view};
+ghost use Rattle.patch_core.specs.Application.{written};
+
 use pointer_core::Pointer;
 use snap_core::Snap;
 
@@ -20,4 +24,14 @@ pub struct Patch {
     pub path: Pointer,
     pub value: Option<Snap>,
     pub old: Option<Snap>,
+}
+
+impl Patch {
+    /// The value that the patch writes.
+    pub(crate) fn written(&self) -> &Snap
+        requires { IsSome self.now.value }
+        ensures { view result.now ≡ written self.now }
+    {
+        self.value.as_ref().unwrap()
+    }
 }

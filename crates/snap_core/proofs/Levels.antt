@@ -70,17 +70,17 @@ bytes_eq-same key = (bytes_eq-Decides key key).1 refl
 -- a case for each answer of the test whether a key is the one that is looked for
 pub same_key : {R : Type 0} (key k : List ℕ) → (key ≡ k → bytes_eq key k ≡ true → R) → (bytes_eq key k ≡ false → R) → R
 same_key {R} key k equal other = elim (bytes_eq key k) as (λ b. bytes_eq key k ≡ b → R) [
-    | true ↦ λ e. equal ((bytes_eq-Decides key k).0 e) e
-    | false ↦ λ e. other e
-  ] refl
+  | true ↦ λ e. equal ((bytes_eq-Decides key k).0 e) e
+  | false ↦ λ e. other e
+] refl
 
 -- a case for each answer of the test whether a key comes before another
 key_before : {R : Type 0} (key k : List ℕ) → (key_cmp key k ≡ Less → is_lt (key_cmp key k) ≡ true → R) → (is_lt (key_cmp key k) ≡ false → R) → R
 key_before {R} key k before other = elim (key_cmp key k) as (λ o. key_cmp key k ≡ o → R) [
-    | Less ↦ λ e. before e (ap is_lt e)
-    | Equal ↦ λ e. other (ap is_lt e)
-    | Greater ↦ λ e. other (ap is_lt e)
-  ] refl
+  | Less ↦ λ e. before e (ap is_lt e)
+  | Equal ↦ λ e. other (ap is_lt e)
+  | Greater ↦ λ e. other (ap is_lt e)
+] refl
 
 pub value_at-set_field : {A : Type 0} (key : List ℕ) (v w : Tree A) (ms : TreeFields A) → value_at key ms ≡ Some w → value_at key (set_field key v ms) ≡ Some v
 value_at-set_field key v w no_members h = cc
@@ -111,16 +111,16 @@ value_at-insert_field key v no_members absent = rw (bytes_eq-same key) refl
 value_at-insert_field key v (member k w ms) absent = same_key key k
     (λ same e. let found : Some w ≡ None = rw e at absent in cc)
     (λ e. key_before key k
-      (λ before lower. rw (lower, bytes_eq-same key) refl)
-      (λ later. rw (later, e) (value_at-insert_field key v ms (rw e at absent))))
+    (λ before lower. rw (lower, bytes_eq-same key) refl)
+    (λ later. rw (later, e) (value_at-insert_field key v ms (rw e at absent))))
 
 pub remove_field-insert_field : {A : Type 0} (key : List ℕ) (v : Tree A) (ms : TreeFields A) → value_at key ms ≡ None → remove_field key (insert_field key v ms) ≡ ms
 remove_field-insert_field key v no_members absent = rw (bytes_eq-same key) refl
 remove_field-insert_field key v (member k w ms) absent = same_key key k
     (λ same e. let found : Some w ≡ None = rw e at absent in cc)
     (λ e. key_before key k
-      (λ before lower. rw (lower, bytes_eq-same key) refl)
-      (λ later. rw (later, e) (ap (member k w) (remove_field-insert_field key v ms (rw e at absent)))))
+    (λ before lower. rw (lower, bytes_eq-same key) refl)
+    (λ later. rw (later, e) (ap (member k w) (remove_field-insert_field key v ms (rw e at absent)))))
 
 -- fields in the order of their keys
 
@@ -143,12 +143,12 @@ absent_before k no_members before keyed = refl
 absent_before {A} k (member k' w ms) before keyed = same_key k k'
     (λ same e. let tied : key_cmp k k' ≡ Equal = itself k k' same in cc)
     (λ e. rw e (elim (value_at k ms) as (λ o. value_at k ms ≡ o → o ≡ None) [
-        | None ↦ λ held. refl
-        | Some v ↦ λ held.
-            let later : key_cmp k' k ≡ Less = before_held k' k ms v keyed.0 keyed.1 held in
-            let earlier : key_cmp k' k ≡ Greater = nat_list_cmp_total.antisymm k' k ∙ ap ordering_reverse before in
-            cc
-      ] refl))
+      | None ↦ λ held. refl
+      | Some v ↦ λ held.
+          let later : key_cmp k' k ≡ Less = before_held k' k ms v keyed.0 keyed.1 held in
+          let earlier : key_cmp k' k ≡ Greater = nat_list_cmp_total.antisymm k' k ∙ ap ordering_reverse before in
+          cc
+    ] refl))
 
 insert_before : {A : Type 0} (key : List ℕ) (v : Tree A) (ms : TreeFields A) → ComesBefore key (keys_of ms) → insert_field key v ms ≡ member key v ms
 insert_before key v no_members before = refl
@@ -158,15 +158,15 @@ pub insert_field-remove_field : {A : Type 0} (key : List ℕ) (v : Tree A) (ms :
 insert_field-remove_field key v no_members keyed held = cc
 insert_field-remove_field {A} key v (member k w ms) keyed held = same_key key k
     (λ same e.
-      let found : Some w ≡ Some v = rw e at held in
-      let equal : w ≡ v = cc in
-      let P : List ℕ → Type 0 = λ x. ComesBefore x (keys_of ms) in
-      let first : ComesBefore key (keys_of ms) = subst P (sym same) keyed.0 in
-      rw e (insert_before key v ms first ∙ ap (λ (x : Tree A). member key x ms) (sym equal) ∙ ap (λ x. member x w ms) same))
+    let found : Some w ≡ Some v = rw e at held in
+    let equal : w ≡ v = cc in
+    let P : List ℕ → Type 0 = λ x. ComesBefore x (keys_of ms) in
+    let first : ComesBefore key (keys_of ms) = subst P (sym same) keyed.0 in
+    rw e (insert_before key v ms first ∙ ap (λ (x : Tree A). member key x ms) (sym equal) ∙ ap (λ x. member x w ms) same))
     (λ e.
-      let held_later : value_at key ms ≡ Some v = rw e at held in
-      let later : is_lt (key_cmp key k) ≡ false = reversed_less key k (before_held k key ms v keyed.0 keyed.1 held_later) in
-      rw (e, later) (ap (member k w) (insert_field-remove_field key v ms keyed.1 held_later)))
+    let held_later : value_at key ms ≡ Some v = rw e at held in
+    let later : is_lt (key_cmp key k) ≡ false = reversed_less key k (before_held k key ms v keyed.0 keyed.1 held_later) in
+    rw (e, later) (ap (member k w) (insert_field-remove_field key v ms keyed.1 held_later)))
 
 pub value_at-remove_field : {A : Type 0} (key : List ℕ) (ms : TreeFields A) → AreKeyed ms → value_at key (remove_field key ms) ≡ None
 value_at-remove_field key no_members keyed = refl
@@ -211,16 +211,16 @@ AreOrderedMembers-set_field key v no_members one all = all
 AreOrderedMembers-set_field {A} key v (member k w ms) one all = same_key key k
     (λ same e. rw e (one, all.1, all.2))
     (λ e.
-      let P : List (List ℕ) → Type 0 = ComesBefore k in
-      rw e (all.0, subst P (sym (keys_of-set_field key v ms)) all.1, AreOrderedMembers-set_field key v ms one all.2))
+    let P : List (List ℕ) → Type 0 = ComesBefore k in
+    rw e (all.0, subst P (sym (keys_of-set_field key v ms)) all.1, AreOrderedMembers-set_field key v ms one all.2))
 
 -- of two unequal keys one comes before the other
 other_before : (key k : List ℕ) → bytes_eq key k ≡ false → is_lt (key_cmp key k) ≡ false → key_cmp k key ≡ Less
 other_before key k apart later = elim (key_cmp key k) as (λ o. key_cmp key k ≡ o → key_cmp k key ≡ Less) [
-    | Less ↦ λ e. let lower : is_lt (key_cmp key k) ≡ true = ap is_lt e in cc
-    | Equal ↦ λ e. let tied : bytes_eq key k ≡ true = sym (is_eq-slice_cmp key k) ∙ ap is_eq e in cc
-    | Greater ↦ λ e. nat_list_cmp_total.antisymm k key ∙ ap ordering_reverse e
-  ] refl
+  | Less ↦ λ e. let lower : is_lt (key_cmp key k) ≡ true = ap is_lt e in cc
+  | Equal ↦ λ e. let tied : bytes_eq key k ≡ true = sym (is_eq-slice_cmp key k) ∙ ap is_eq e in cc
+  | Greater ↦ λ e. nat_list_cmp_total.antisymm k key ∙ ap ordering_reverse e
+] refl
 
 ComesBefore-insert_field : {A : Type 0} (k key : List ℕ) (v : Tree A) (ms : TreeFields A) → key_cmp k key ≡ Less → ComesBefore k (keys_of ms) → ComesBefore k (keys_of (insert_field key v ms))
 ComesBefore-insert_field k key v no_members lower before = lower
@@ -233,8 +233,8 @@ AreOrderedMembers-insert_field key v no_members absent one all = (one, tt, tt)
 AreOrderedMembers-insert_field key v (member k w ms) absent one all = same_key key k
     (λ same e. let found : Some w ≡ None = rw e at absent in cc)
     (λ e. key_before key k
-      (λ before lower. rw lower (one, before, all))
-      (λ later. rw later (all.0, ComesBefore-insert_field k key v ms (other_before key k e later) all.1, AreOrderedMembers-insert_field key v ms (rw e at absent) one all.2)))
+    (λ before lower. rw lower (one, before, all))
+    (λ later. rw later (all.0, ComesBefore-insert_field k key v ms (other_before key k e later) all.1, AreOrderedMembers-insert_field key v ms (rw e at absent) one all.2)))
 
 ComesBefore-first : {A : Type 0} (k k' : List ℕ) (ms : TreeFields A) → key_cmp k k' ≡ Less → ComesBefore k' (keys_of ms) → ComesBefore k (keys_of ms)
 ComesBefore-first k k' no_members lower before = tt

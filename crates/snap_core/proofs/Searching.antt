@@ -60,7 +60,7 @@ fields_view-insert key (g ∷ gs) (suc at) low high within field has =
     let P : List ℕ × Value → Type 0 = λ e. is_lt (key_cmp key e.0) ≡ false in
     let not_lower : is_lt (key_cmp key (entry g).0) ≡ false = subst P (sym (entry-fields g)) later in
     rw not_lower (ap (member (entry g).0 (entry g).1)
-      (fields_view-insert key gs at (λ k d below. low (suc k) d (omega arith)) (λ k d above inside. high (suc k) d (omega arith) (omega arith)) (omega arith) field has))
+    (fields_view-insert key gs at (λ k d below. low (suc k) d (omega arith)) (λ k d above inside. high (suc k) d (omega arith) (omega arith)) (omega arith) field has))
 
 -- a field with the key goes where the search ended
 pub place-searched : (key : List ℕ) (fs : List Field) (r : Result ℕ ℕ) → AreKeyed (fields_view fs) → IsSearchInRange r (length fs)
