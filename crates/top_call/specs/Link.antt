@@ -8,10 +8,11 @@ use Rattle.snap_json.specs.Printing.{json_text}
 use Rattle.pointer_core.specs.Path.{Path, printed}
 use Rattle.pointer_core.specs.Rule.{rule_name, rule_status}
 use Rattle.pointer_core.specs.declared.refusal.Rule.{Rule}
-use Rattle.pointer_core.specs.declared.refusal.Rule.TheVariants.{Head, Syntax, Whole}
+use Rattle.pointer_core.specs.declared.refusal.Rule.TheVariants.{Head, Syntax, Whole, Identifier}
 use Rattle.type_core.specs.declared.shape.ModelType.{ModelType}
 use Rattle.type_core.specs.Table.{Catalog}
 use Rattle.type_core.specs.Making.{Outcome, making}
+use Rattle.type_core.specs.Doubled.{identifiers_of, doubled_of}
 use Rattle.http_front.specs.Arrival.{Arrival, whole, partial, refused, Arrives}
 use Rattle.http_front.specs.Reply.{line, reply_bytes}
 use Rattle.top_call.specs.declared.answer.End.{End}
@@ -51,14 +52,20 @@ own_type (Some model) = model.own.0
 abbrev pub root_type : Catalog → ℕ
 root_type types = own_type (slice_get types.table.models types.root.0)
 
--- the reply to what making comes to
-abbrev pub making_reply : Outcome Value → List ℕ
-making_reply (Ok v) = reply_bytes 200 false (snapshot_body v)
-making_reply (Err e) = place_reply e.rule e.path
+-- the reply to a value that was made, by the place where an identifier stands a second time, if one does
+abbrev pub snapshot_reply : Value → Option Path → List ℕ
+snapshot_reply v None = reply_bytes 200 false (snapshot_body v)
+snapshot_reply v (Some second) = place_reply Identifier second
 
--- The reply to a body: the root's type makes its value, unless a number in it isn't whole or it spells none.
+-- the reply to what making comes to
+abbrev pub making_reply : Catalog → Outcome Value → List ℕ
+making_reply types (Ok v) = snapshot_reply v (doubled_of (identifiers_of types v))
+making_reply types (Err e) = place_reply e.rule e.path
+
+-- The reply to a body: the root's type makes its value, unless a number in it isn't whole or it spells none; and what is made
+-- holds no identifier twice.
 abbrev pub reading_reply : Catalog → Reading → List ℕ
-reading_reply types (value v) = making_reply (making types (root_type types) (Some v))
+reading_reply types (value v) = making_reply types (making types (root_type types) (Some v))
 reading_reply types (unwhole path) = place_reply Whole path
 reading_reply types syntax = rule_reply false Syntax
 

@@ -9,6 +9,7 @@ ghost use Rattle.http_front.specs.Reply.{reply_bytes};
 ghost use Rattle.snap_json.specs.Printing.{json_text};
 ghost use Rattle.snap_json.specs.Reading.{reading};
 ghost use Rattle.type_core.specs.Making.{making};
+ghost use Rattle.type_core.specs.Doubled.{identifiers_of, doubled_of};
 ghost use Rattle.top_call.specs.Link as link;
 
 use http_front::{Next, next_request, print_reply};
@@ -17,7 +18,7 @@ use pointer_core::{Refusal, Rule};
 use snap_core::{Bytes, Field, Snap, Txt, TypeNo};
 use snap_json::{ReadError, print_snap, read_snap};
 use std::alloc::{AllocError, Global};
-use type_core::{MakeError, Types, make};
+use type_core::{MakeError, Types, doubled, make};
 
 /// How the bytes of a link end.
 #[derive(Clone, Copy, Debug, PartialEq, Eq)]
@@ -124,11 +125,11 @@ fn body_reply(alloc: Global, types: &Types, body: &[u8]) -> Result<Bytes, AllocE
 // The reply to a value: what the root's type makes of it, or why it makes nothing.
 fn value_reply(alloc: Global, types: &Types, given: &Snap) -> Result<Bytes, AllocError>
     requires { IsPlain (view given.now) }
-    ensures { IfOk result (λ bytes. bytes ≡ link.making_reply
+    ensures { IfOk result (λ bytes. bytes ≡ link.making_reply types.now
         (making types.now (link.root_type types.now) (Some (view given.now)))) }
 {
     match make(alloc, types, root_type(types), Some(given)) {
-        Ok(made) => made_reply(alloc, made),
+        Ok(made) => made_reply(alloc, types, made),
         Err(MakeError::Memory) => Err(AllocError),
         Err(MakeError::Refused(refusal)) => refusal_reply(alloc, &refusal),
     }
@@ -142,8 +143,26 @@ fn root_type(types: &Types) -> TypeNo
     types.model_type(types.root())
 }
 
-// The reply that shows what was made.
-fn made_reply(alloc: Global, made: Snap) -> Result<Bytes, AllocError>
+// The reply to what was made: it is shown, unless it holds an identifier twice.
+fn made_reply(alloc: Global, types: &Types, made: Snap) -> Result<Bytes, AllocError>
+    requires { IsPlain (view made) }
+    ensures { IfOk result (λ bytes. bytes ≡ link.snapshot_reply (view made)
+        (doubled_of (identifiers_of types.now (view made)))) }
+{
+    match doubled(alloc, types, &made)? {
+        Some(path) => refusal_reply(
+            alloc,
+            &Refusal {
+                path,
+                rule: Rule::Identifier,
+            },
+        ),
+        None => snapshot_reply(alloc, made),
+    }
+}
+
+// The reply that shows a value.
+fn snapshot_reply(alloc: Global, made: Snap) -> Result<Bytes, AllocError>
     requires { IsPlain (view made) }
     ensures { IfOk result (λ bytes. bytes ≡ reply_bytes 200 false (link.snapshot_body (view made))) }
 {
