@@ -4,7 +4,7 @@ use Rattle.std.specs.Bool.{MatchBool}
 use Rattle.std.proofs.lemmas.List.{take-append-drop, length-take-le}
 use Rattle.std.proofs.Math.Seq.{take-append_seam, drop-nil}
 use Rattle.edge_core.specs.Faults.{is_next_failing}
-use Rattle.edge_core.specs.Door.{Link, Links, DoorState, Accepts, FindsNone, Reads, has_next, with_next, after_accept, left_of, read_count, after_read, after_bytes}
+use Rattle.edge_core.specs.Door.{Link, Links, MemoryDoorState, Accepts, FindsNone, Reads, has_next, with_next, after_accept, left_of, read_count, after_read, after_bytes}
 
 next_link : (coming : List (List ℕ)) (links new : Links) (more : Bool) → links.coming ≡ coming → more ≡ has_next coming → new ≡ with_next coming links → MatchBool more (Accepts links new) (FindsNone links new)
 next_link [] links new true at found after = absurd cc
@@ -18,10 +18,10 @@ next_link (input ∷ coming) links new true at found after =
       same_shut = ap (λ (l : Links). l.shut) after;
     }
 
-pub accepts_next : {E : Type 0} (old new : DoorState) (r : Result Bool E) → is_err r ≡ is_next_failing old.faults → IfOk r (λ more. more ≡ has_next old.links.coming) → new ≡ after_accept old → IfOk r (λ more. MatchBool more (Accepts old.links new.links) (FindsNone old.links new.links))
+pub accepts_next : {E : Type 0} (old new : MemoryDoorState) (r : Result Bool E) → is_err r ≡ is_next_failing old.faults → IfOk r (λ more. more ≡ has_next old.links.coming) → new ≡ after_accept old → IfOk r (λ more. MatchBool more (Accepts old.links new.links) (FindsNone old.links new.links))
 accepts_next old new (Err e) failed found after = tt
 accepts_next old new (Ok more) failed found after =
-    let after_links : new.links ≡ (if is_next_failing old.faults then old.links else with_next old.links.coming old.links) = ap (λ (d : DoorState). d.links) after in
+    let after_links : new.links ≡ (if is_next_failing old.faults then old.links else with_next old.links.coming old.links) = ap (λ (d : MemoryDoorState). d.links) after in
     next_link old.links.coming old.links new.links more refl found (rw (← failed) at after_links)
 
 reads_piece : (link : Link) (old new : Links) (n : ℕ) (room : List ℕ) → old.current ≡ Some link → n ≤ length link.left → (n ≡ 0 → link.left ≡ []) → new ≡ record old { current = Some (after_bytes n link) } → Reads (take n (take n link.left ++ drop n room)) old new
@@ -42,10 +42,10 @@ reads_current None old new cut n room room' at is_open count at_end bytes after 
 reads_current (Some link) old new cut n room room' at is_open count at_end bytes after =
     rw bytes (reads_piece link old new n room at (omega arith) at_end after)
 
-pub reads_some : {E : Type 0} (old new : DoorState) (r : Result ℕ E) (room room' : List ℕ) → IsTrue (is_some old.links.current) → 0 < length room → is_err r ≡ is_next_failing old.faults → IfOk r (λ n. n ≡ read_count old (length room)) → IfOk r (λ n. n ≡ 0 → 0 < length room → left_of old.links.current ≡ []) → IfOk r (λ n. room' ≡ take n (left_of old.links.current) ++ drop n room) → new ≡ after_read old (length room) → IfOk r (λ n. Reads (take n room') old.links new.links)
+pub reads_some : {E : Type 0} (old new : MemoryDoorState) (r : Result ℕ E) (room room' : List ℕ) → IsTrue (is_some old.links.current) → 0 < length room → is_err r ≡ is_next_failing old.faults → IfOk r (λ n. n ≡ read_count old (length room)) → IfOk r (λ n. n ≡ 0 → 0 < length room → left_of old.links.current ≡ []) → IfOk r (λ n. room' ≡ take n (left_of old.links.current) ++ drop n room) → new ≡ after_read old (length room) → IfOk r (λ n. Reads (take n room') old.links new.links)
 reads_some old new (Err e) room room' is_open has_room failed count at_end bytes after = tt
 reads_some old new (Ok n) room room' is_open has_room failed count at_end bytes after =
     let current : Option Link = old.links.current in
     let moved : new.links ≡ record old.links { current = if is_next_failing old.faults then current else option_map (after_bytes (read_count old (length room))) current } =
-    ap (λ (d : DoorState). d.links) after in
+    ap (λ (d : MemoryDoorState). d.links) after in
     reads_current old.links.current old.links new.links old.cut n room room' refl is_open count (λ none. at_end none has_room) bytes (rw (← failed, ← count) at moved)

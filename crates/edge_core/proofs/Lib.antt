@@ -1,2 +1,3 @@
 pub mod DoorSteps
 pub mod Written
+pub mod WorldSteps

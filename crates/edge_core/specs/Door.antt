@@ -1,7 +1,9 @@
 -- Links: streams that bring bytes and take bytes, one after another.
-use Rattle.std.specs.Prelude.{ℕ, ◌≡◌, ◌++◌, ◌||◌, Bool, true, false, List, [], ◌∷◌, Option, Some, None, length, drop, min, not, if◌then◌else◌, option_to_list, option_map, map}
-use Rattle.edge_core.specs.Faults.{Faults, is_next_failing, after_call}
+use Rattle.std.specs.Prelude.{ℕ, ◌≡◌, ◌≤◌, ◌++◌, ◌||◌, Bool, true, false, List, [], ◌∷◌, Option, Some, None, length, drop, min, not, if◌then◌else◌, option_to_list, option_map, is_some, map}
+use Rattle.edge_core.specs.Faults.{PlannedFaults, HasRisen, is_next_failing, after_call}
 use Rattle.edge_core.specs.Room.{has_place}
+use Rattle.edge_core.specs.declared.door.AskedPort.{AskedPort}
+use Rattle.edge_core.specs.declared.door.AskedPort.TheVariants.{Never, Once, Again}
 
 -- what a link brings from here on, and what was written to it
 pub record Link : Type 0 where
@@ -13,6 +15,42 @@ pub record Links : Type 0 where
   pub shut : List Link
   pub current : Option Link
   pub coming : List (List ℕ)
+
+-- once attaching at this port, or with none at the standard streams, was asked for too
+abbrev pub asked_also : Option ℕ → AskedPort → AskedPort
+asked_also port Never = Once port
+asked_also port _ = Again
+
+-- What a door tells: whether it is attached, and at what it was asked to attach; whether a link is open; what the links bring
+-- and what was written to them, where it is told (`None` claims nothing); and how many calls failed.
+pub record DoorState : Type 0 where
+  pub is_attached : Bool
+  pub asked : AskedPort
+  pub is_open : Bool
+  pub links : Option Links
+  pub fault_count : ℕ
+
+-- some call of the door failed and was counted
+abbrev pub DoorHasFailed : DoorState → DoorState → Type 0
+DoorHasFailed old new = HasRisen old.fault_count new.fault_count
+
+-- attaching there was asked for; no link is other than it was, and the count of faults never falls
+pub record AsksToAttach (port : Option ℕ) (old new : DoorState) : Type 0 where
+  pub asked : new.asked ≡ asked_also port old.asked
+  pub open_as_before : new.is_open ≡ old.is_open
+  pub links : new.links ≡ old.links
+  pub count : old.fault_count ≤ new.fault_count
+
+-- whether and at what the door is attached is as it was, and the count of faults never falls
+pub record KeepsAttachment (old new : DoorState) : Type 0 where
+  pub attached : new.is_attached ≡ old.is_attached
+  pub asked : new.asked ≡ old.asked
+  pub count : old.fault_count ≤ new.fault_count
+
+-- all but the links' bytes is as it was, and the count of faults never falls
+pub record KeepsDoor (old new : DoorState) : Type 0 where
+  pub attachment : KeepsAttachment old new
+  pub open_as_before : new.is_open ≡ old.is_open
 
 -- both are told and related, or neither is told
 abbrev pub BothTold : {A : Type 0} → (A → A → Type 0) → Option A → Option A → Type 0
@@ -58,17 +96,33 @@ abbrev pub after_bytes : ℕ → Link → Link
 after_bytes n link = record link { left = drop n link.left }
 
 -- links in memory: no read takes more than `cut` bytes, and `space` is the room for all that is written to a link
-pub record DoorState : Type 0 where
+pub record MemoryDoorState : Type 0 where
   pub is_attached : Bool
+  pub asked : AskedPort
   pub links : Links
   pub cut : ℕ
   pub space : ℕ
-  pub faults : Faults
+  pub faults : PlannedFaults
 
-abbrev pub after_attach : DoorState → DoorState
-after_attach door =
+-- what a door in memory tells: all that it holds
+abbrev pub told_by : MemoryDoorState → DoorState
+told_by door =
+    record {
+      is_attached = door.is_attached;
+      asked = door.asked;
+      is_open = is_some door.links.current;
+      links = Some door.links;
+      fault_count = door.faults.count;
+    }
+
+abbrev pub after_attach : Option ℕ → MemoryDoorState → MemoryDoorState
+after_attach port door =
     let failed = is_next_failing door.faults in
-    record door { is_attached = door.is_attached || not failed; faults = after_call door.faults failed }
+    record door {
+      is_attached = door.is_attached || not failed;
+      asked = asked_also port door.asked;
+      faults = after_call door.faults failed;
+    }
 
 -- some link is still to come
 abbrev pub has_next : List (List ℕ) → Bool
@@ -81,7 +135,7 @@ with_next [] links = links
 with_next (input ∷ coming) links =
     record links { current = Some (record { left = input; written = [] }); coming = coming }
 
-abbrev pub after_accept : DoorState → DoorState
+abbrev pub after_accept : MemoryDoorState → MemoryDoorState
 after_accept door =
     let failed = is_next_failing door.faults in
     record door {
@@ -99,10 +153,10 @@ written_of None = []
 written_of (Some link) = link.written
 
 -- how many bytes a read into a room of that many takes
-abbrev pub read_count : DoorState → ℕ → ℕ
+abbrev pub read_count : MemoryDoorState → ℕ → ℕ
 read_count door room = min door.cut (min room (length (left_of door.links.current)))
 
-abbrev pub after_read : DoorState → ℕ → DoorState
+abbrev pub after_read : MemoryDoorState → ℕ → MemoryDoorState
 after_read door room =
     let failed = is_next_failing door.faults in
     let current = door.links.current in
@@ -112,14 +166,14 @@ after_read door room =
     }
 
 -- the next writing fails: it is to fail, or the link has no room left for the piece
-abbrev pub write_fails : DoorState → List ℕ → Bool
+abbrev pub write_fails : MemoryDoorState → List ℕ → Bool
 write_fails door piece =
     is_next_failing door.faults || not (has_place (written_of door.links.current) door.space piece)
 
 abbrev pub with_written : List ℕ → Link → Link
 with_written piece link = record link { written = link.written ++ piece }
 
-abbrev pub after_write : DoorState → List ℕ → DoorState
+abbrev pub after_write : MemoryDoorState → List ℕ → MemoryDoorState
 after_write door piece =
     let failed = write_fails door piece in
     let current = door.links.current in
@@ -133,8 +187,14 @@ abbrev pub all_written : Links → List (List ℕ)
 all_written links =
     map (λ link. link.written) (links.shut ++ option_to_list links.current) ++ map (λ input. []) links.coming
 
--- what is known of a door to the system
+-- what is known of a door of the system
 pub record RealDoorState : Type 0 where
   pub is_attached : Bool
+  pub asked : AskedPort
   pub is_open : Bool
-  pub faults : ℕ
+  pub fault_count : ℕ
+
+-- what a door of the system tells: not what its links bring and take
+abbrev pub told_of_system : RealDoorState → DoorState
+told_of_system door =
+    record { is_attached = door.is_attached; asked = door.asked; is_open = door.is_open; links = None; fault_count = door.fault_count }

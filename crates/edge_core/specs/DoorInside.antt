@@ -3,14 +3,15 @@ use Rattle.std.specs.Prelude.{◌≡◌, ◌+◌, ◌≤◌, ◌<◌, length, ma
 use Rattle.std.specs.VecDeque.{deque_len}
 use Rattle.std.specs.List.{All}
 use Rattle.std.specs.Option.{ForSome}
-use Rattle.edge_core.specs.Door.{DoorState}
+use Rattle.edge_core.specs.Door.{MemoryDoorState}
 use Rattle.edge_core.specs.LinkInside.{IsFresh, inputs_of}
 use Rattle.edge_core.specs.declared.memory_door.MemoryDoor.TheInside.{Inside}
 
-abbrev pub state_of : Inside → DoorState
+abbrev pub state_of : Inside → MemoryDoorState
 state_of door =
     record {
       is_attached = door.attached;
+      asked = door.asked;
       links = record {
         shut = map (λ bounded. bounded.link) door.shut.items;
         current = option_map (λ bounded. bounded.link) door.current;

@@ -11,16 +11,16 @@ abbrev pub risen : ℕ → ℕ
 risen n = min (n + 1) 18446744073709551615
 
 -- how many calls there were and how many failed, and the numbers of those that are to fail
-pub record Faults : Type 0 where
+pub record PlannedFaults : Type 0 where
   pub calls : ℕ
   pub count : ℕ
   pub failing : List ℕ
 
 -- the next call is one of those that are to fail
-abbrev pub is_next_failing : Faults → Bool
+abbrev pub is_next_failing : PlannedFaults → Bool
 is_next_failing faults = list_any (λ n. n == risen faults.calls) faults.failing
 
 -- after a call that failed, or did not
-abbrev pub after_call : Faults → Bool → Faults
+abbrev pub after_call : PlannedFaults → Bool → PlannedFaults
 after_call faults failed =
     record faults { calls = risen faults.calls; count = if failed then risen faults.count else faults.count }

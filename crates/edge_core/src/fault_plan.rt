@@ -16,9 +16,9 @@ pub(crate) struct FaultPlan {
 }
 
 impl Model for FaultPlan {
-    ghost use Rattle.edge_core.specs.Faults.{Faults};
+    ghost use Rattle.edge_core.specs.Faults.{PlannedFaults};
 
-    ghost Value = { Faults };
+    ghost Value = { PlannedFaults };
 
     ghost view = { λ p. record { calls = p.calls; count = p.count; failing = p.failing } };
 }

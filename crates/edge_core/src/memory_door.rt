@@ -6,7 +6,7 @@ ghost use Rattle.edge_core.specs.Faults.{is_next_failing};
 ghost use Rattle.edge_core.specs.LinkInside.{IsFresh, inputs_of, after_reading, after_writing};
 ghost use Rattle.edge_core.specs.Door.{after_attach, has_next, after_accept, left_of, read_count, after_read, write_fails, after_write, after_shut, all_written};
 
-use crate::door::{Door, DoorFault};
+use crate::door::{AskedPort, Door, DoorFault};
 use crate::fault_plan::{Calls, FaultPlan};
 use crate::memory_link::MemoryLink;
 use list_core::Parts;
@@ -25,15 +25,16 @@ pub struct MemoryDoor {
     current: Option<MemoryLink>,
     coming: VecDeque<MemoryLink>,
     attached: bool,
+    asked: AskedPort,
     cut: usize,
     space: usize,
     plan: FaultPlan,
 }
 
 impl Model for MemoryDoor {
-    ghost use Rattle.edge_core.specs.Door.{DoorState};
+    ghost use Rattle.edge_core.specs.Door.{MemoryDoorState};
 
-    ghost Value = { DoorState };
+    ghost Value = { MemoryDoorState };
 
     ghost use Rattle.edge_core.specs.DoorInside.{state_of, IsReady};
 
@@ -115,6 +116,7 @@ impl MemoryDoor {
         requires { 0 < cut }
         ensures { IfOk result (λ door. door ≡ record {
           is_attached = false;
+          asked = AskedPort.Never;
           links = record { shut = []; current = None; coming = inputs };
           cut = cut;
           space = space;
@@ -127,6 +129,7 @@ impl MemoryDoor {
             current: None,
             coming,
             attached: false,
+            asked: AskedPort::Never,
             cut,
             space,
             plan: FaultPlan::new(fails),
@@ -134,11 +137,12 @@ impl MemoryDoor {
     }
 
     /// As `Door::attach`.
-    pub fn attach(&mut self, _port: Option<u16>) -> Result<(), DoorFault>
+    pub fn attach(&mut self, port: Option<u16>) -> Result<(), DoorFault>
         ensures failed { is_err result ≡ is_next_failing self.old.faults }
-        ensures after { self.new ≡ after_attach self.old }
+        ensures after { self.new ≡ after_attach port self.old }
         ensures count { self.old.faults.count ≤ self.new.faults.count }
     {
+        self.asked = self.asked.also(port);
         if self.plan.fails_next(false) {
             return Err(DoorFault);
         }
@@ -238,15 +242,10 @@ impl MemoryDoor {
 }
 
 impl Door for MemoryDoor {
-    ghost use Rattle.std.specs.Prelude.{Some, is_some, refl};
+    ghost use Rattle.std.specs.Prelude.{refl};
+    ghost use Rattle.edge_core.specs.Door.{told_by};
 
-    ghost is_attached = { λ d. d.is_attached };
-
-    ghost is_open = { λ d. is_some d.links.current };
-
-    ghost links = { λ d. Some d.links };
-
-    ghost fault_count = { λ d. d.faults.count };
+    ghost state = { told_by };
 
     ghost open_is_told = { λ _. refl };
 

@@ -1,4 +1,4 @@
-ghost use Rattle.std.specs.Prelude.{◌≡◌, ◌≤◌, ◌<◌, ◌↔◌, [], length, IfOk, IfErr, IsTrue, IsErrOf, IsSomeAnd, is_err};
+ghost use Rattle.std.specs.Prelude.{◌≡◌, ◌≤◌, ◌<◌, ◌↔◌, ◌⊎◌, [], length, IfOk, IfErr, IsTrue, IsErrOf, IsSomeAnd, is_err};
 ghost use Rattle.std.specs.Option.{option_copied};
 ghost use Rattle.edge_core.specs.World.{file_of, read_fails, write_fails, after_read, after_out, after_err};
 
@@ -19,19 +19,21 @@ pub struct MemoryWorld {
     files: Files,
     out: FilledRoom,
     err: FilledRoom,
+    asked: Parts<Txt>,
     plan: FaultPlan,
 }
 
 impl Model for MemoryWorld {
     ghost use Rattle.std.specs.Prelude.{◌≡◌};
-    ghost use Rattle.edge_core.specs.World.{WorldState};
+    ghost use Rattle.edge_core.specs.World.{MemoryWorldState};
 
-    ghost Value = { WorldState };
+    ghost Value = { MemoryWorldState };
 
     ghost view = { λ w. record {
       files = w.files;
       out = w.out.bytes;
       err = w.err.bytes;
+      asked = w.asked;
       space = w.out.space;
       faults = w.plan;
     } };
@@ -75,6 +77,7 @@ impl MemoryWorld {
           files = files;
           out = [];
           err = [];
+          asked = [];
           space = space;
           faults = record { calls = 0; count = 0; failing = fails };
         }) }
@@ -83,6 +86,7 @@ impl MemoryWorld {
             files,
             out: FilledRoom::new(alloc, space)?,
             err: FilledRoom::new(alloc, space)?,
+            asked: Parts::new(alloc),
             plan: FaultPlan::new(fails),
         })
     }
@@ -101,16 +105,21 @@ impl MemoryWorld {
         self.err.as_slice()
     }
 
-    /// As `World::read_file`. A name that isn't among the files is `Failed`, and is counted.
+    /// As `World::read_file`. A name that isn't among the files is `Failed`, and is counted. Where
+    /// memory runs out before the file is asked for, all is as before.
     pub fn read_file(&mut self, alloc: Global, name: &str, most: usize) -> Result<Bytes, EdgeError>
         ensures ok { IfOk result (λ bytes. file_of self.old.files name.now ≡ Some bytes) }
         ensures at_most { IfOk result (λ bytes. length bytes ≤ most) }
-        ensures failed { IsErrOf result EdgeError.Failed ↔ IsTrue (read_fails self.old name.now) }
-        ensures too_long { IsErrOf result EdgeError.TooLong ↔ (¬ IsTrue (read_fails self.old name.now)
-            × IsSomeAnd (file_of self.old.files name.now) (λ bytes. most < length bytes)) }
-        ensures after { self.new ≡ after_read self.old name.now }
+        ensures failed { IsErrOf result EdgeError.Failed → IsTrue (read_fails self.old name.now) }
+        ensures fails { IsTrue (read_fails self.old name.now) →
+            IsErrOf result EdgeError.Failed ⊎ IsErrOf result EdgeError.Memory }
+        ensures too_long { IsErrOf result EdgeError.TooLong →
+            IsSomeAnd (file_of self.old.files name.now) (λ bytes. most < length bytes) }
+        ensures after { (self.new ≡ after_read self.old name.now)
+            ⊎ (IsErrOf result EdgeError.Memory × (self.new ≡ self.old)) }
         ensures count { self.old.faults.count ≤ self.new.faults.count }
     {
+        self.asked.push(Txt::copy(alloc, name)?)?;
         let found = find(self.files.as_slice(), name);
         let fails = self.plan.fails_next(found.is_none());
         match found {
@@ -156,15 +165,9 @@ impl MemoryWorld {
 }
 
 impl World for MemoryWorld {
-    ghost use Rattle.std.specs.Prelude.{Some};
+    ghost use Rattle.edge_core.specs.World.{told_by};
 
-    ghost files = { λ w. Some w.files };
-
-    ghost out = { λ w. Some w.out };
-
-    ghost err = { λ w. Some w.err };
-
-    ghost fault_count = { λ w. w.faults.count };
+    ghost state = { told_by };
 
     fn read_file(&mut self, alloc: Global, name: &str, most: usize) -> Result<Bytes, EdgeError> {
         MemoryWorld::read_file(self, alloc, name, most)

@@ -1,7 +1,7 @@
 ghost use Rattle.std.specs.Prelude.{◌≡◌, ◌≤◌, length, false, IfOk, is_some};
 ghost use Rattle.edge_core.specs.Faults.{HasRisen};
 
-use crate::door::{Door, DoorFault};
+use crate::door::{AskedPort, Door, DoorFault};
 use std::io;
 use std::io::{Print, Read, Write};
 use std::marker::Model;
@@ -31,6 +31,7 @@ pub struct RealDoor<N: Net, I, O> {
     input: I,
     output: O,
     source: Option<Source<N::Listener>>,
+    asked: AskedPort,
     peer: Option<Peer<N::Stream>>,
     faults: u64,
 }
@@ -43,8 +44,9 @@ impl<N: Net, I, O> Model for RealDoor<N, I, O> {
 
     ghost view = { λ d. record {
       is_attached = is_some d.source;
+      asked = d.asked;
       is_open = is_some d.peer;
-      faults = d.faults;
+      fault_count = d.faults;
     } };
 }
 
@@ -110,23 +112,28 @@ fn write_to<S: Write, O: Print>(
 impl<N: Net, I, O> RealDoor<N, I, O> {
     /// A door that isn't attached yet.
     pub fn new(net: N, input: I, output: O) -> RealDoor<N, I, O>
-        ensures { result ≡ record { is_attached = false; is_open = false; faults = 0 } }
+        ensures { result ≡ record {
+          is_attached = false;
+          asked = AskedPort.Never;
+          is_open = false;
+          fault_count = 0;
+        } }
     {
         RealDoor {
             net,
             input,
             output,
             source: None,
+            asked: AskedPort::Never,
             peer: None,
             faults: 0,
         }
     }
 
     fn failure(&mut self) -> DoorFault
-        ensures rises { HasRisen self.old.faults self.new.faults }
-        ensures count { self.old.faults ≤ self.new.faults }
-        ensures same_attached { self.new.is_attached ≡ self.old.is_attached }
-        ensures same_open { self.new.is_open ≡ self.old.is_open }
+        ensures rises { HasRisen self.old.fault_count self.new.fault_count }
+        ensures count { self.old.fault_count ≤ self.new.fault_count }
+        ensures same { self.new ≡ record self.old { fault_count = self.new.fault_count } }
     {
         self.faults = self.faults.saturating_add(1);
         DoorFault
@@ -134,19 +141,14 @@ impl<N: Net, I, O> RealDoor<N, I, O> {
 }
 
 impl<N: Net, I: Read, O: Print> Door for RealDoor<N, I, O> {
-    ghost use Rattle.std.specs.Prelude.{None};
+    ghost use Rattle.edge_core.specs.Door.{told_of_system};
 
-    ghost is_attached = { λ d. d.is_attached };
-
-    ghost is_open = { λ d. d.is_open };
-
-    ghost links = { λ _. None };
-
-    ghost fault_count = { λ d. d.faults };
+    ghost state = { told_of_system };
 
     ghost open_is_told = { λ _. tt };
 
     fn attach(&mut self, port: Option<u16>) -> Result<(), DoorFault> {
+        self.asked = self.asked.also(port);
         match source_at(&self.net, port) {
             Ok(source) => {
                 self.source = Some(source);

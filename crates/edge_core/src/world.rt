@@ -1,6 +1,5 @@
-ghost use Rattle.std.specs.Prelude.{◌≡◌, ◌≤◌, ◌<◌, ◌++◌, ℕ, List, Option, length, take, IfOk, IfErr, OnOk, OnErr, IfSome, IsSomeAnd, IsErrOf, option_map};
-ghost use Rattle.edge_core.specs.Faults.{HasRisen};
-ghost use Rattle.edge_core.specs.World.{file_of};
+ghost use Rattle.std.specs.Prelude.{◌≡◌, ◌≤◌, ◌<◌, ◌⊎◌, length, IfOk, IfErr, OnOk, OnErr, IfSome, IsSomeAnd, IsErrOf};
+ghost use Rattle.edge_core.specs.World.{WorldState, WorldHasFailed, AsksFor, KeepsFiles, Gets, GetsPart, file_of};
 
 use snap_core::Bytes;
 use std::alloc::{AllocError, Global};
@@ -30,61 +29,48 @@ impl From<AllocError> for EdgeError {
     }
 }
 
-/// Files, standard output and standard error. What they hold may be told or not: `None` claims
-/// nothing. Failures are counted, and a call answers `Failed` only where it counted one.
+/// Files, standard output and standard error, as one state. Failures are counted, and a call
+/// answers `Failed` only where it counted one.
 pub trait World {
-    /// Pairs of a name and contents, of which the first of a name is its file.
-    ghost files: { Self → Option (List (List ℕ × List ℕ)) };
-
-    /// The bytes written to standard output.
-    ghost out: { Self → Option (List ℕ) };
-
-    /// The bytes written to standard error.
-    ghost err: { Self → Option (List ℕ) };
-
-    /// How many calls failed.
-    ghost fault_count: { Self → ℕ };
+    /// What the world tells of its files, its streams, and the calls of it.
+    ghost state: { Self → WorldState };
 
     /// The whole file, where it has at most `most` bytes: `TooLong` where it has more, `Failed`
-    /// where it can't be read, and a fault is counted, `Memory` where memory runs out.
+    /// where it can't be read, and a fault is counted, `Memory` where memory runs out, which may be
+    /// before the file is asked for.
     fn read_file(&mut self, alloc: Global, name: &str, most: usize) -> Result<Bytes, EdgeError>
         ensures ok { IfOk result (λ bytes.
-            IfSome (files self.old) (λ fs. file_of fs name.now ≡ Some bytes)) }
+            IfSome (state self.old).files (λ files. file_of files name.now ≡ Some bytes)) }
         ensures at_most { IfOk result (λ bytes. length bytes ≤ most) }
-        ensures too_long { IsErrOf result EdgeError.TooLong → IfSome (files self.old) (λ fs.
-            IsSomeAnd (file_of fs name.now) (λ bytes. most < length bytes)) }
+        ensures too_long { IsErrOf result EdgeError.TooLong →
+            IfSome (state self.old).files (λ files.
+            IsSomeAnd (file_of files name.now) (λ bytes. most < length bytes)) }
         ensures failed { IsErrOf result EdgeError.Failed →
-            HasRisen (fault_count self.old) (fault_count self.new) }
-        ensures same_files { files self.new ≡ files self.old }
-        ensures same_out { out self.new ≡ out self.old }
-        ensures same_err { err self.new ≡ err self.old }
-        ensures count { fault_count self.old ≤ fault_count self.new };
+            WorldHasFailed (state self.old) (state self.new) }
+        ensures asks { AsksFor name.now (state self.old) (state self.new)
+            ⊎ (IsErrOf result EdgeError.Memory × (state self.new ≡ state self.old)) };
 
     /// Writes the whole piece to standard output, or fails as `Failed` and has written a part of it,
     /// which may be none or all. A fault is counted.
     fn write_out(&mut self, piece: &[u8]) -> Result<(), EdgeError>
-        ensures ok { OnOk result (out self.new ≡ option_map (λ bytes. bytes ++ piece.now) (out self.old)) }
+        ensures ok { OnOk result (Gets piece.now (state self.old).out (state self.new).out) }
         ensures error { IfErr result (λ e. e ≡ EdgeError.Failed) }
-        ensures failed { OnErr result (HasRisen (fault_count self.old) (fault_count self.new)) }
-        ensures part { OnErr result ((n : ℕ)
-            × (out self.new ≡ option_map (λ bytes. bytes ++ take n piece.now) (out self.old))) }
-        ensures same_files { files self.new ≡ files self.old }
-        ensures same_err { err self.new ≡ err self.old }
-        ensures count { fault_count self.old ≤ fault_count self.new };
+        ensures failed { OnErr result (WorldHasFailed (state self.old) (state self.new)) }
+        ensures part { OnErr result (GetsPart piece.now (state self.old).out (state self.new).out) }
+        ensures same_err { (state self.new).err ≡ (state self.old).err }
+        ensures keeps { KeepsFiles (state self.old) (state self.new) };
 
     /// Writes the whole piece to standard error, or fails as `Failed` and has written a part of it,
     /// which may be none or all. A fault is counted.
     fn write_err(&mut self, piece: &[u8]) -> Result<(), EdgeError>
-        ensures ok { OnOk result (err self.new ≡ option_map (λ bytes. bytes ++ piece.now) (err self.old)) }
+        ensures ok { OnOk result (Gets piece.now (state self.old).err (state self.new).err) }
         ensures error { IfErr result (λ e. e ≡ EdgeError.Failed) }
-        ensures failed { OnErr result (HasRisen (fault_count self.old) (fault_count self.new)) }
-        ensures part { OnErr result ((n : ℕ)
-            × (err self.new ≡ option_map (λ bytes. bytes ++ take n piece.now) (err self.old))) }
-        ensures same_files { files self.new ≡ files self.old }
-        ensures same_out { out self.new ≡ out self.old }
-        ensures count { fault_count self.old ≤ fault_count self.new };
+        ensures failed { OnErr result (WorldHasFailed (state self.old) (state self.new)) }
+        ensures part { OnErr result (GetsPart piece.now (state self.old).err (state self.new).err) }
+        ensures same_out { (state self.new).out ≡ (state self.old).out }
+        ensures keeps { KeepsFiles (state self.old) (state self.new) };
 
     /// How many calls failed so far. The count stays at its largest number.
     fn faults(&self) -> u64
-        ensures { result ≡ fault_count self.now };
+        ensures { result ≡ (state self.now).fault_count };
 }

@@ -1,21 +1,17 @@
 -- What a search by halves among ascending keys finds.
-use Rattle.std.proofs.Common.{◌≡◌, ℕ, zero, suc, ◌<◌, List, [], ◌∷◌, length, get_or, true, false, Some, None, MatchOption, IfSome, slice_get, Result, Ok, Err, refl, sym, ◌∙◌, ap, subst, inl, inr, arith, add-one}
+use Rattle.std.proofs.Common.{◌≡◌, ℕ, zero, suc, ◌<◌, List, [], ◌∷◌, length, get_or, true, false, Some, None, refl, sym, ◌∙◌, ap, subst, arith, add-one}
 use Rattle.std.specs.declared.cmp.Ordering.{Ordering}
 use Rattle.std.specs.declared.cmp.Ordering.TheVariants.{Less, Equal, Greater}
 use Rattle.std.specs.Ordering.{nat_cmp, is_eq, is_lt, ordering_index, ordering_reverse}
 use Rattle.std.specs.Cmp.Lexicographic.{slice_cmp}
-use Rattle.std.specs.List.Sorted.{IsBinarySearchResult, IsSearchInRange, IsNonDecreasingBy}
-use Rattle.std.specs.Result.{result_ok}
+use Rattle.std.specs.List.Sorted.{IsNonDecreasingBy}
 use Rattle.std.specs.Str.{bytes_eq}
-use Rattle.std.proofs.lemmas.Bool.{cases_lt}
 use Rattle.std.proofs.lemmas.Cmp.{nat_list_cmp_total, tied_back}
 use Rattle.std.proofs.lemmas.List.Sorted.{searchable_from_sorted}
 use Rattle.std.proofs.lemmas.Map.Text.{is_eq-slice_cmp}
-use Rattle.std.proofs.lemmas.Slice.Eq.{bytes_eq-Decides}
-use Rattle.std.proofs.lemmas.Option.{get_or_from_slice_get}
 use Rattle.snap_core.specs.Value.{Value, ComesBefore, AreKeyed, keys_of, value_at}
 use Rattle.snap_core.specs.declared.snap.Field.{Field}
-use Rattle.snap_core.specs.View.{view, entry, fields_view}
+use Rattle.snap_core.specs.View.{entry, fields_view}
 use Rattle.snap_core.proofs.Views.{entry-fields}
 
 -- keys by their bytes
@@ -79,27 +75,3 @@ value_at-absent key [] none = refl
 value_at-absent key (f ∷ fs) none =
     let P : List ℕ × Value → Type 0 = λ e. bytes_eq key e.0 ≡ false in
     rw (subst P (sym (entry-fields f)) (bytes_eq-unequal key f.key (none 0 f (omega arith)))) (value_at-absent key fs (λ at d within. none (suc at) d (omega arith)))
-
--- the index that a search answers is that of the field with the key; where it answers none, no field has it
-pub value_at-searched : (key : List ℕ) (fs : List Field) (r : Result ℕ ℕ) → AreKeyed (fields_view fs) → IsSearchInRange r (length fs)
-    → IsBinarySearchResult (λ (f : Field). key_cmp f.key key) fs r
-    → MatchOption (result_ok r) (value_at key (fields_view fs) ≡ None) (λ at. (field : Field) → slice_get fs at ≡ Some field → value_at key (fields_view fs) ≡ Some (view field.value))
-value_at-searched key fs (Ok at) keyed within found = λ field here.
-    let P : Field → Type 0 = λ f. value_at key (fields_view fs) ≡ Some (view f.value) in
-    let Q : List ℕ × Value → Type 0 = λ e. value_at key (fields_view fs) ≡ Some e.1 in
-    subst P (get_or_from_slice_get fs at field field here) (subst Q (entry-fields (get_or fs at field)) (value_at-present key fs at field keyed within (found field)))
-value_at-searched key fs (Err at) keyed within parted =
-    let halves = parted (searchable key fs keyed) in
-    value_at-absent key fs (λ i d inside equal. elim (cases_lt i at) [
-      | inl low ↦ let less : key_cmp (get_or fs i d).key key ≡ Less = halves.0 i d (omega arith) low in cc
-      | inr high ↦ let greater : key_cmp (get_or fs i d).key key ≡ Greater = halves.1 i d high inside in cc
-    ])
-
--- the field at the index that a search answers has the key
-pub key-searched : (key : List ℕ) (fs : List Field) (r : Result ℕ ℕ) → IsBinarySearchResult (λ (f : Field). key_cmp f.key key) fs r
-    → IfSome (result_ok r) (λ at. (field : Field) → slice_get fs at ≡ Some field → field.key ≡ key)
-key-searched key fs (Ok at) found = λ field here.
-    let P : Field → Type 0 = λ f. key_cmp f.key key ≡ Equal in
-    let same : key_cmp field.key key ≡ Equal = subst P (get_or_from_slice_get fs at field field here) (found field) in
-    sym ((bytes_eq-Decides key field.key).0 (bytes_eq-Equal key field.key same))
-key-searched key fs (Err at) found = tt

@@ -2,3 +2,4 @@ pub mod Name
 pub mod Value
 pub mod View
 pub mod Unview
+pub mod Level

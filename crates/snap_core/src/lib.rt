@@ -21,7 +21,7 @@ mod text;
 mod whole;
 
 pub use ident::Ident;
-pub use lookup::{find, position};
+pub use lookup::{find, position, search};
 pub use name::{Name, NameError, is_name};
 pub use number::{ModelNo, NodeNo, TypeNo};
 pub use snap::{Field, Fields, Items, Snap};

@@ -1,0 +1,13 @@
+pub mod Labelled
+pub mod Edit
+pub mod Comparing
+pub mod Between
+pub mod Rules
+pub mod Template
+pub mod Matching
+pub mod Reconciling
+pub mod Application
+pub mod Laws
+pub mod Plain
+pub mod Around
+pub mod Numbers

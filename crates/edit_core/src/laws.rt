@@ -1,0 +1,36 @@
+ghost use Rattle.edit_core.specs.Laws.{EditsLeadToOne, EditsAreTakenBack, EditsLeadAcross, ReconcilingLeadsToTheNew, PatchesLeadToTheNew, NumbersDiffer, FirstMatchesOnce};
+
+/// An edit that leads from a labelled snapshot leads to one alone.
+pub fn edits_lead_to_one()
+    ensures { EditsLeadToOne }
+{}
+
+/// The inverse of an edit leads back to the very labels.
+pub fn edits_are_taken_back()
+    ensures { EditsAreTakenBack }
+{}
+
+/// The edits between two labelled snapshots lead from the one to the other.
+pub fn edits_lead_across()
+    ensures { EditsLeadAcross }
+{}
+
+/// However items are matched, reconciling leads to the new value.
+pub fn reconciling_leads_to_the_new()
+    ensures { ReconcilingLeadsToTheNew }
+{}
+
+/// The patches of reconciling fit in turn, and lead to the new value at its place.
+pub fn patches_lead_to_the_new()
+    ensures { PatchesLeadToTheNew }
+{}
+
+/// Where each old item is matched at most once, the numbers of all nodes differ again.
+pub fn numbers_differ()
+    ensures { NumbersDiffer }
+{}
+
+/// The matching by the first item that is the same matches each old item at most once.
+pub fn first_matches_once()
+    ensures { FirstMatchesOnce }
+{}

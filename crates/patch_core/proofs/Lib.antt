@@ -1,0 +1,5 @@
+pub mod Steps
+pub mod Inverses
+pub mod Ordered
+pub mod TakenBack
+pub mod InPlace
