@@ -16,5 +16,5 @@ returns-clause-wrong c =
     let with_shapes : List (Option Shape) → Plan = λ shapes. record { shapes = shapes; models = models } in
     let whole : plan_of made ≡ c.args.self = ap with_shapes c.in_ok-shapes.ensures ∙ c.self.view_is in
     IfWrong-weaker c.finished.result _ _
-    (λ t rule first table plan. let P : Table → Type 0 = λ x. IsFirstFault x t.0 rule in subst P (same_table made table (whole ∙ sym plan)) first)
+    (λ t rule first table plan. let P : Table → Type 0 = λ x. IsFirstFault x t.0 rule in subst P (c.in_ok-table.ensures ∙ same_table made table (whole ∙ sym plan)) first)
     c.finished.ensures.wrong
