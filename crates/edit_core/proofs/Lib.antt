@@ -23,3 +23,4 @@ pub mod RuleLinks
 pub mod RuleMatching
 pub mod RuleItems
 pub mod RuleFields
+pub mod ByRules

@@ -179,7 +179,7 @@ module _ (typing : Typing) where
   -- a matched item stays as the new one
 
   identity-from : (name : Option (List ℕ)) (v w : Value) → equal_under name v w ≡ true → identity_kept name v w ≡ true
-  identity-from None v w h = cc h
+  identity-from None v w h = cc
   identity-from (Some name) v w h = h
 
   -- what one model is identified by
@@ -227,6 +227,7 @@ module _ (typing : Typing) where
           let P : Value → Type 0 = λ w. stays o (numbered next (template (by_first typing) t (Some o) w)) ≡ true in
           let Q : Labelled → Type 0 = λ x. stays o x ≡ true in
           subst P same (subst Q (sym (ap (numbered next) (template-equal (by_first typing) t o) ∙ numbered-kept next o)) (stays-itself o))
+
       other : (w : Value) → is_equal (bare o) w ≡ false → Identified (typing.kind_of t w) (seen o) w → stays o (numbered next (template (by_first typing) t (Some o) w)) ≡ true
       other null e i = absurd (suited t null (Model i.model) i.is)
       other (boolean b) e i = absurd (suited t (boolean b) (Model i.model) i.is)
@@ -235,6 +236,7 @@ module _ (typing : Typing) where
       other (list a ps) e i = absurd (suited t (list a ps) (Model i.model) i.is)
       other (dict a ms) e i =
           rw (e, i.is) (model-stays t next o i.model ms (field_templates (by_first typing) ms) labelled i.same (both-true (is_kind (seen o).kind (Model i.model)) (identity_kept (typing.identifier_of i.model) (bare o) (dict tt ms)) i.same i.identity))
+
       go : (b : Bool) → is_equal (bare o) v ≡ b → stays o (numbered next (template (by_first typing) t (Some o) v)) ≡ true
       go true e = equal e
       go false e =

@@ -72,10 +72,10 @@ module _ (same : Labelled → Value → Bool) (same_value : Value → Value → 
           let same_here : same o new ≡ same_value (bare o) n.value = link new ∙ ap (same_value (bare o)) is in
           rw same_here
           (elim (same_value (bare o) n.value) as (λ b. (taken_or b n (left_of ss ns) (taking same_value (bare o) (left_of ss ns))).left
-              ≡ left_of (if b then record { new = new; old = Some o } ∷ ss else record { new = new; old = None } ∷ taken same o ss) (n ∷ ns)) [
-              | true ↦ refl
-              | false ↦ ap (λ l. Some n ∷ l) rest
-            ])
+          ≡ left_of (if b then record { new = new; old = Some o } ∷ ss else record { new = new; old = None } ∷ taken same o ss) (n ∷ ns)) [
+            | true ↦ refl
+            | false ↦ ap (λ l. Some n ∷ l) rest
+          ])
 
     pub taking-match : (n : ℕ) (st : List Slot) (news : List NewPart) → Aligned st news → has n (Some o) ≡ true → NoneHas n st
         → (taking same_value (bare o) (left_of st news)).match ≡ pick (has n) (taken same o st) news
@@ -90,10 +90,10 @@ module _ (same : Labelled → Value → Bool) (same_value : Value → Value → 
           let same_here : same o new ≡ same_value (bare o) m.value = link new ∙ ap (same_value (bare o)) is in
           rw same_here
           (elim (same_value (bare o) m.value) as (λ b. (taken_or b m (left_of ss ns) (taking same_value (bare o) (left_of ss ns))).match
-              ≡ pick (has n) (if b then record { new = new; old = Some o } ∷ ss else record { new = new; old = None } ∷ taken same o ss) (m ∷ ns)) [
-              | true ↦ rw h
-              | false ↦ rest
-            ])
+          ≡ pick (has n) (if b then record { new = new; old = Some o } ∷ ss else record { new = new; old = None } ∷ taken same o ss) (m ∷ ns)) [
+            | true ↦ rw h
+            | false ↦ rest
+          ])
 
     -- what is taken is the same, and is one of the new items
     pub taking-part : (P : NewPart → Type 0) (st : List Slot) (news : List NewPart) → Aligned st news → AllParts P news

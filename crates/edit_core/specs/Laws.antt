@@ -12,6 +12,7 @@ use Rattle.edit_core.specs.Typing.{Typing, Rules}
 use Rattle.edit_core.specs.Matching.{first_matching, by_first}
 use Rattle.edit_core.specs.Template.{template, numbered}
 use Rattle.edit_core.specs.Labelling.{IsSuited, IsLabelledBy}
+use Rattle.edit_core.specs.Rules.{patches_by_rules}
 use Rattle.edit_core.specs.Numbers.{AreNumbered, MatchesOnce, HasNumbers}
 use Rattle.edit_core.specs.Reconciling.{Setting, Written, reconciled}
 
@@ -86,3 +87,18 @@ pub record LabelsAreTyped (typing : Typing) : Type 0 where
 
 abbrev pub LabelsFollowTypes : Type 0
 LabelsFollowTypes = (typing : Typing) → IsSuited typing → LabelsAreTyped typing
+
+-- a value can be set: the old one is labelled as its type says, with numbers that differ and are below the next
+-- one, and the keys of both values ascend
+pub record CanBeSet (typing : Typing) (s : Setting) : Type 0 where
+  pub suited : IsSuited typing
+  pub labelled : IsLabelledBy typing s.type s.old
+  pub numbered : AreNumbered s.next s.old
+  pub ordered : IsOrdered (bare s.old)
+  pub new_ordered : IsOrdered s.new
+
+-- without labels, the edits are exactly the patches that the rules give for the two plain values
+abbrev pub ReconcilingFollowsTheRules : Type 0
+ReconcilingFollowsTheRules =
+    (typing : Typing) (s : Setting) → CanBeSet typing s
+    → map patch_of (reconciled (by_first typing) s).edits ≡ patches_by_rules typing s.type (bare s.old) s.new
