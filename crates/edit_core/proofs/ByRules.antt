@@ -1,6 +1,6 @@
 -- Reconciling follows the rules: without labels, its edits are exactly the patches that the rules give.
-use Rattle.std.proofs.Common.{◌≡◌, ℕ, ◌+◌, ◌<◌, ◌≤◌, List, [], ◌∷◌, map, Bool, true, false, ◌&&◌, Option, Some, None, refl, sym, ◌∙◌, ap, subst, arith}
-use Rattle.std.specs.Prelude.{◌==◌, sum_by, if◌then◌else◌}
+use Rattle.std.proofs.Common.{◌≡◌, ℕ, ◌+◌, ◌<◌, ◌≤◌, List, [], ◌∷◌, map, true, false, Option, Some, None, refl, sym, ◌∙◌, ap, subst, arith}
+use Rattle.std.specs.Prelude.{◌==◌, if◌then◌else◌}
 use Rattle.std.proofs.lemmas.Bool.Decides.{Decides-eqb}
 use Rattle.snap_core.specs.declared.number.TypeNo.{TypeNo}
 use Rattle.snap_core.specs.Value.{Value, null, boolean, integer, text, list, dict, no_parts, part, no_members, member, Items, Fields, IsOrdered, AreOrdered, AreOrderedMembers}
@@ -8,28 +8,27 @@ use Rattle.patch_core.specs.declared.patch.Patch.{Patch}
 use Rattle.edit_core.specs.declared.kind.Kind.{Kind}
 use Rattle.edit_core.specs.declared.kind.Kind.TheVariants.{Model, Array, Map}
 use Rattle.edit_core.specs.Labelled.{Label, Labelled, Entry, Branches, Entries, leaf, many, keyed, no_branches, branch, no_entries, entry, entries, items_in, entries_in, bare, bare_items, bare_fields}
-use Rattle.edit_core.specs.Edit.{Edit, whole}
+use Rattle.edit_core.specs.Edit.{whole}
 use Rattle.edit_core.specs.Plain.{patch_of}
 use Rattle.edit_core.specs.Comparing.{is_equal, same_kind, same_label}
 use Rattle.edit_core.specs.Between.{item_edits, entry_edits, edits_between, olds_in, old_entries_in}
-use Rattle.edit_core.specs.Typing.{Typing, Rules, Typed, seen, label_of, is_kind, stays_as}
+use Rattle.edit_core.specs.Typing.{Typing, Rules, seen, is_kind, stays_as}
 use Rattle.edit_core.specs.Matching.{by_first, matched, same_item}
-use Rattle.edit_core.specs.Template.{NewLabel, Template, kept, standing, label_for, items_under, entries_under, values_in, unless_equal, array_template, record_template, template, item_templates, field_templates, drawn, draws, numbered, numbered_items, numbered_entries}
-use Rattle.edit_core.specs.Numbers.{one_where, times, times_in_items, times_in_entries, AreNumbered}
+use Rattle.edit_core.specs.Template.{Template, kept, standing, label_for, items_under, entries_under, values_in, unless_equal, array_template, record_template, item_templates, field_templates, numbered, numbered_items, numbered_entries}
+use Rattle.edit_core.specs.Numbers.{times_in_items, times_in_entries, AreNumbered}
 use Rattle.edit_core.specs.Labelling.{IsSuited, IfArray, IfRecord, IsLabelledBy, AreLabelledBy, HoldLabelledBy}
 use Rattle.edit_core.specs.Reconciling.{Setting, reconciled}
-use Rattle.edit_core.specs.Rules.{typed, replaced, unless_same, items_of, fields_of, array_rule, record_rule, array_patches, record_patches, patches_by_rules, new_items, new_fields}
-use Rattle.edit_core.proofs.Equal.{and-left, kind-is, equal-is}
-use Rattle.edit_core.proofs.Bare.{bare-template, bare-numbered, bare-numbered_entries, bare-items, bare-fields}
+use Rattle.edit_core.specs.Rules.{replaced, unless_same, items_of, fields_of, array_rule, record_rule, array_patches, record_patches, patches_by_rules, new_items, new_fields}
+use Rattle.edit_core.proofs.Equal.{and-left, kind-is}
+use Rattle.edit_core.proofs.Bare.{bare-numbered, bare-numbered_entries, bare-items, bare-fields}
 use Rattle.edit_core.proofs.Unchanged.{both-true, between-itself, numbered-kept}
 use Rattle.edit_core.proofs.Labelling.{AllLabelledBy, EachLabelledBy, items-labelled, entries-labelled, if-record}
 use Rattle.edit_core.proofs.Keeping.{sum-items}
 use Rattle.edit_core.proofs.Ascending.{Ascend}
 use Rattle.edit_core.proofs.Patching.{ascend-plain}
-use Rattle.edit_core.proofs.Places.{plain_fields}
 use Rattle.edit_core.proofs.RuleLinks.{leaf-follows, whole-follows, number-itself, seen-typed, kind-label}
-use Rattle.edit_core.proofs.RuleItems.{AllNumbered, AllOrdered, all-numbered-more, old_parts, olds-parts, values-bare, low-number, Follows, FollowItems, items-follow}
-use Rattle.edit_core.proofs.RuleFields.{EachNumbered, EachOrdered, numbered-each, old_pairs, old-pairs, FollowFields, fields-follow}
+use Rattle.edit_core.proofs.RuleItems.{AllNumbered, AllOrdered, all-numbered-more, olds-parts, values-bare, low-number, Follows, FollowItems, items-follow}
+use Rattle.edit_core.proofs.RuleFields.{EachNumbered, EachOrdered, numbered-each, old-pairs, FollowFields, fields-follow}
 
 -- parts of what is numbered and ordered
 

@@ -1,5 +1,5 @@
 -- The edits of a model or a map are, without labels, the patches of the rule of records.
-use Rattle.std.proofs.Common.{◌≡◌, ℕ, ◌+◌, ◌≤◌, List, [], ◌∷◌, ◌++◌, map, Bool, true, false, ◌||◌, Option, Some, None, refl, sym, ◌∙◌, ap, subst, arith}
+use Rattle.std.proofs.Common.{◌≡◌, ℕ, ◌+◌, ◌≤◌, List, [], ◌∷◌, ◌++◌, map, true, false, Option, Some, None, refl, sym, ◌∙◌, ap, subst, arith}
 use Rattle.std.specs.Prelude.{if◌then◌else◌}
 use Rattle.std.specs.List.{list_any}
 use Rattle.std.specs.Option.{option_map}
@@ -8,19 +8,18 @@ use Rattle.std.specs.declared.cmp.Ordering.TheVariants.{Less, Equal, Greater}
 use Rattle.std.specs.Ordering.{ordering_reverse}
 use Rattle.std.specs.Str.{bytes_eq}
 use Rattle.std.proofs.lemmas.Cmp.{nat_list_cmp_total}
-use Rattle.snap_core.specs.Value.{Value, dict, no_members, member, value_at, Fields, IsOrdered, AreOrderedMembers}
+use Rattle.snap_core.specs.Value.{Value, no_members, member, value_at, Fields, IsOrdered, AreOrderedMembers}
 use Rattle.snap_core.proofs.Finding.{key_cmp, bytes_eq-Less, bytes_eq-Equal, bytes_eq-unequal}
 use Rattle.patch_core.specs.declared.patch.Patch.{Patch}
 use Rattle.edit_core.specs.declared.kind.Kind.{Kind}
-use Rattle.edit_core.specs.Labelled.{Label, Labelled, Entry, Entries, no_entries, entry, entries, entries_in, bare, bare_fields}
-use Rattle.edit_core.specs.Edit.{Edit, within, at_entry, add, remove}
+use Rattle.edit_core.specs.Labelled.{Label, Labelled, Entry, Entries, no_entries, entry, entries_in, bare}
 use Rattle.edit_core.specs.Plain.{patch_of}
-use Rattle.edit_core.specs.Between.{OldPart, entries_of, Parting, parted, parted_after, edits_at, settings, united, cuts, cleared, entry_edits, edits_between, old_entries_in}
+use Rattle.edit_core.specs.Between.{OldPart, entries_of, Parting, parted, parted_after, edits_at, settings, united, cuts, cleared, entry_edits, old_entries_in}
 use Rattle.edit_core.specs.Typing.{Typing, Rules}
 use Rattle.edit_core.specs.Matching.{by_first}
 use Rattle.edit_core.specs.Template.{template, field_templates, entry_at, new_count, numbered, numbered_entries}
 use Rattle.edit_core.specs.Numbers.{AreNumbered}
-use Rattle.edit_core.specs.Labelling.{IsSuited, IsLabelledBy}
+use Rattle.edit_core.specs.Labelling.{IsSuited}
 use Rattle.edit_core.specs.Rules.{NewPart, all_inside, added, removed, set_at, all_set, all_cleared, record_rule, patches_by_rules, new_fields}
 use Rattle.edit_core.proofs.Bare.{bare-template, bare-numbered}
 use Rattle.edit_core.proofs.Labelling.{EachLabelledBy, IfLabelledBy, found-labelled}

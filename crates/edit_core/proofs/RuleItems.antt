@@ -4,24 +4,23 @@ use Rattle.std.specs.Prelude.{sum_by, if◌then◌else◌}
 use Rattle.std.specs.List.{find}
 use Rattle.std.proofs.lemmas.Bool.{cases_lt}
 use Rattle.std.proofs.lemmas.List.Sums.{sum_by-cons}
-use Rattle.snap_core.specs.Value.{Value, list, no_parts, part, Items, IsOrdered, AreOrdered}
-use Rattle.patch_core.specs.declared.patch.Patch.{Patch}
+use Rattle.snap_core.specs.Value.{Value, no_parts, part, Items, IsOrdered, AreOrdered}
 use Rattle.edit_core.specs.declared.kind.Kind.{Kind}
 use Rattle.edit_core.specs.declared.kind.Kind.TheVariants.{Model, Array, Map}
 use Rattle.edit_core.specs.Labelled.{Label, Labelled, Branches, leaf, many, keyed, no_branches, branch, items_in, bare, bare_items}
-use Rattle.edit_core.specs.Edit.{Edit, within, at_item, add, remove, moved_to_item}
+use Rattle.edit_core.specs.Edit.{Edit, within, at_item, remove, moved_to_item}
 use Rattle.edit_core.specs.Plain.{patch_of}
 use Rattle.edit_core.specs.Comparing.{is_equal}
 use Rattle.edit_core.specs.Between.{OldPart, values, stays, all_stay, one_by_one, match_of, edits_to, becomes, edits_in_place, removals, additions, moved, item_edits, edits_between, olds_in}
 use Rattle.edit_core.specs.Typing.{Typing, Rules, label_of, seen}
 use Rattle.edit_core.specs.Matching.{Slot, all_taken, taken, open_slot, pairwise, matched, by_first, same_item, identified}
 use Rattle.edit_core.specs.Template.{template, item_templates, values_in, new_count, numbered, numbered_items}
-use Rattle.edit_core.specs.Numbers.{times, AreNumbered, matched_sum}
+use Rattle.edit_core.specs.Numbers.{times, AreNumbered}
 use Rattle.edit_core.specs.Labelling.{IsSuited, IsLabelledBy}
-use Rattle.edit_core.specs.Rules.{NewPart, all_inside, typed, at_indices, Taking, taking, matches, patches_to, in_place, value_now, values_now, all_removed, all_added, rewritten, same_values, array_rule, patches_by_rules, new_items, removed, added}
+use Rattle.edit_core.specs.Rules.{NewPart, all_inside, at_indices, taking, matches, patches_to, in_place, value_now, values_now, all_removed, all_added, rewritten, same_values, array_rule, patches_by_rules, new_items, removed, added}
 use Rattle.edit_core.proofs.Equal.{equal-is, and-left, and-right}
 use Rattle.edit_core.proofs.Bare.{bare-template, bare-numbered}
-use Rattle.edit_core.proofs.Unchanged.{both-true, equal-itself}
+use Rattle.edit_core.proofs.Unchanged.{both-true}
 use Rattle.edit_core.proofs.Labelling.{AllLabelledBy}
 use Rattle.edit_core.proofs.Numbering.{slots_sum, taken-sum}
 use Rattle.edit_core.proofs.RuleLinks.{map-joined, patches-in_item, rules-equal, has, is_number, number-itself, stays-has, seen-typed, stays-kept}

@@ -1,15 +1,14 @@
 -- Old items take new ones one by one, as slots and as matches.
-use Rattle.std.proofs.Common.{◌≡◌, ℕ, ◌+◌, ◌≤◌, List, [], ◌∷◌, map, Bool, true, false, ◌&&◌, Option, Some, None, refl, sym, ◌∙◌, ap, subst, arith}
+use Rattle.std.proofs.Common.{◌≡◌, ℕ, ◌+◌, ◌≤◌, List, [], ◌∷◌, map, Bool, true, false, ◌&&◌, Option, Some, None, refl, ◌∙◌, ap, arith}
 use Rattle.std.specs.Prelude.{◌==◌, sum_by, if◌then◌else◌}
 use Rattle.std.proofs.lemmas.List.Sums.{sum_by-cons}
 use Rattle.snap_core.specs.Value.{Value}
-use Rattle.edit_core.specs.Labelled.{Label, Labelled, leaf, many, keyed, bare}
-use Rattle.edit_core.specs.Typing.{label_of}
+use Rattle.edit_core.specs.Labelled.{Labelled, leaf, many, keyed, bare}
 use Rattle.edit_core.specs.Matching.{Slot, is_open, taken, all_taken, open_slot}
 use Rattle.edit_core.specs.Numbers.{one_where, times, matched_sum}
-use Rattle.edit_core.specs.Rules.{NewPart, Taking, taking, matches}
-use Rattle.edit_core.proofs.RuleLinks.{has, is_number}
-use Rattle.edit_core.proofs.Numbering.{slots_sum, taken-sum}
+use Rattle.edit_core.specs.Rules.{NewPart, Taking, taking}
+use Rattle.edit_core.proofs.RuleLinks.{has}
+use Rattle.edit_core.proofs.Numbering.{slots_sum}
 
 abbrev pub open_part : Option Labelled → NewPart → Option NewPart
 open_part None n = Some n
