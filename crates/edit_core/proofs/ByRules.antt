@@ -27,7 +27,8 @@ use Rattle.edit_core.proofs.Keeping.{sum-items}
 use Rattle.edit_core.proofs.Ascending.{Ascend}
 use Rattle.edit_core.proofs.Patching.{ascend-plain}
 use Rattle.edit_core.proofs.RuleLinks.{leaf-follows, whole-follows, number-itself, seen-typed, kind-label}
-use Rattle.edit_core.proofs.RuleItems.{AllNumbered, AllOrdered, all-numbered-more, olds-parts, values-bare, low-number, Follows, FollowItems, items-follow}
+use Rattle.edit_core.proofs.OldItems.{AllNumbered, AllOrdered, all-numbered-more, olds-parts, values-bare, low-number}
+use Rattle.edit_core.proofs.RuleItems.{Follows, FollowItems, items-follow}
 use Rattle.edit_core.proofs.RuleFields.{EachNumbered, EachOrdered, numbered-each, old-pairs, FollowFields, fields-follow}
 
 -- parts of what is numbered and ordered

@@ -27,7 +27,8 @@ use Rattle.edit_core.proofs.Ascending.{AllAfter, Ascend, after-further}
 use Rattle.edit_core.proofs.EntryEdits.{keys-equal}
 use Rattle.edit_core.proofs.Places.{plain_fields}
 use Rattle.edit_core.proofs.RuleLinks.{map-joined, patches-in_entry}
-use Rattle.edit_core.proofs.RuleItems.{as_old, Follows, numbered-more}
+use Rattle.edit_core.proofs.OldItems.{as_old, numbered-more}
+use Rattle.edit_core.proofs.RuleItems.{Follows}
 
 abbrev pub old_pairs : List Entry → List (List ℕ × OldPart)
 old_pairs es = map (λ e. (e.0, as_old e.1)) es

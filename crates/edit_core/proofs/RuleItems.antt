@@ -1,17 +1,16 @@
 -- The edits of an array are, without labels, the patches of the array rule.
-use Rattle.std.proofs.Common.{◌≡◌, ℕ, suc, ◌+◌, ◌<◌, ◌≤◌, List, [], ◌∷◌, ◌++◌, length, map, Bool, true, false, ◌&&◌, ◌||◌, Option, Some, None, unwrap_or, decimal, refl, sym, ◌∙◌, ap, subst, arith, inl, inr, length-append}
+use Rattle.std.proofs.Common.{◌≡◌, ℕ, suc, ◌+◌, ◌≤◌, List, [], ◌∷◌, ◌++◌, length, map, Bool, true, false, ◌&&◌, ◌||◌, Option, Some, None, unwrap_or, decimal, refl, sym, ◌∙◌, ap, subst, arith}
 use Rattle.std.specs.Prelude.{sum_by, if◌then◌else◌}
 use Rattle.std.specs.List.{find}
-use Rattle.std.proofs.lemmas.Bool.{cases_lt}
 use Rattle.std.proofs.lemmas.List.Sums.{sum_by-cons}
 use Rattle.snap_core.specs.Value.{Value, no_parts, part, Items, IsOrdered, AreOrdered}
 use Rattle.edit_core.specs.declared.kind.Kind.{Kind}
 use Rattle.edit_core.specs.declared.kind.Kind.TheVariants.{Model, Array, Map}
-use Rattle.edit_core.specs.Labelled.{Label, Labelled, Branches, leaf, many, keyed, no_branches, branch, items_in, bare, bare_items}
+use Rattle.edit_core.specs.Labelled.{Label, Labelled, leaf, many, keyed, items_in, bare}
 use Rattle.edit_core.specs.Edit.{Edit, within, at_item, remove, moved_to_item}
 use Rattle.edit_core.specs.Plain.{patch_of}
 use Rattle.edit_core.specs.Comparing.{is_equal}
-use Rattle.edit_core.specs.Between.{OldPart, values, stays, all_stay, one_by_one, match_of, edits_to, becomes, edits_in_place, removals, additions, moved, item_edits, edits_between, olds_in}
+use Rattle.edit_core.specs.Between.{values, stays, all_stay, one_by_one, match_of, edits_to, becomes, edits_in_place, removals, additions, moved, item_edits, edits_between}
 use Rattle.edit_core.specs.Typing.{Typing, Rules, label_of, seen}
 use Rattle.edit_core.specs.Matching.{Slot, all_taken, taken, open_slot, pairwise, matched, by_first, same_item, identified}
 use Rattle.edit_core.specs.Template.{template, item_templates, values_in, new_count, numbered, numbered_items}
@@ -23,94 +22,9 @@ use Rattle.edit_core.proofs.Bare.{bare-template, bare-numbered}
 use Rattle.edit_core.proofs.Unchanged.{both-true}
 use Rattle.edit_core.proofs.Labelling.{AllLabelledBy}
 use Rattle.edit_core.proofs.Numbering.{slots_sum, taken-sum}
-use Rattle.edit_core.proofs.RuleLinks.{map-joined, patches-in_item, rules-equal, has, is_number, number-itself, stays-has, seen-typed, stays-kept}
-use Rattle.edit_core.proofs.RuleMatching.{Aligned, left_of, pick, NoneHas, NoneHave, SlotIs, EachSlot, IfPart, AllParts, taking-left, taking-match, taking-part, aligned-taken, pick-all_taken, AllGive, each-all_taken, each-open, has-times, none-has, none-have}
-
--- an old item, and the edits from it
-abbrev pub as_old : Labelled → OldPart
-as_old x = record { value = x; edits = edits_between x }
-
-abbrev pub old_parts : List Labelled → List OldPart
-old_parts xs = map as_old xs
-
-pub olds-parts : (bs : Branches Label) → olds_in bs ≡ old_parts (items_in bs)
-olds-parts no_branches = refl
-olds-parts (branch x bs) = ap (λ os. as_old x ∷ os) (olds-parts bs)
-
-pub values-bare : (bs : Branches Label) → values_in (bare_items bs) ≡ map bare (items_in bs)
-values-bare no_branches = refl
-values-bare (branch x bs) = ap (λ vs. bare x ∷ vs) (values-bare bs)
-
-abbrev pub AllNumbered : ℕ → List Labelled → Type 0
-AllNumbered next [] = Unit {0}
-AllNumbered next (x ∷ xs) = AreNumbered next x × AllNumbered next xs
-
-abbrev pub AllOrdered : List Labelled → Type 0
-AllOrdered [] = Unit {0}
-AllOrdered (x ∷ xs) = IsOrdered (bare x) × AllOrdered xs
-
-pub numbered-more : (next further : ℕ) (x : Labelled) → next ≤ further → AreNumbered next x → AreNumbered further x
-numbered-more next further x le h = record { differ = h.differ; below = λ n above. h.below n (omega arith) }
-
-pub all-numbered-more : (next further : ℕ) (xs : List Labelled) → next ≤ further → AllNumbered next xs → AllNumbered further xs
-all-numbered-more next further [] le h = tt
-all-numbered-more next further (x ∷ xs) le h = (numbered-more next further x le h.0, all-numbered-more next further xs le h.1)
-
-length-next : (done : List Labelled) (x : Labelled) (i : ℕ) → length done ≡ i → length (done ++ x ∷ []) ≡ suc i
-length-next done x i h = omega (arith, length-append done (x ∷ []))
-
--- numbers stand at one item alone
-
-abbrev AllSame : Labelled → Label → List Labelled → Type 0
-AllSame o l [] = Unit {0}
-AllSame o l (x ∷ xs) = (has l.number (Some x) ≡ true → x ≡ o) × AllSame o l xs
-
-abbrev AllSameFor : List Labelled → List Labelled → Type 0
-AllSameFor [] xs = Unit {0}
-AllSameFor (o ∷ os) xs = ((l : Label) → label_of o ≡ Some l → AllSame o l xs) × AllSameFor os xs
-
-none-same : (o : Labelled) (l : Label) (xs : List Labelled) → NoneHave l.number xs → AllSame o l xs
-none-same o l [] none = tt
-none-same o l (x ∷ xs) none = (λ h. absurd (let no : false ≡ true = sym none.0 ∙ h in cc no), none-same o l xs none.1)
-
-own-number : (o : Labelled) (l : Label) → label_of o ≡ Some l → has l.number (Some o) ≡ true
-own-number o l named = let P : Option Label → Type 0 = λ k. is_number l.number k ≡ true in subst P (sym named) (number-itself l.number)
-
-own-times : (o : Labelled) (l : Label) → label_of o ≡ Some l → 1 ≤ times l.number o
-own-times o l named = has-times l.number o (own-number o l named)
-
--- a number that stands in a value is below the next one
-pub low-number : (next : ℕ) (o : Labelled) (l : Label) → label_of o ≡ Some l → AreNumbered next o → l.number < next
-low-number next o l named numbers = elim (cases_lt l.number next) [
-  | inl low ↦ low
-  | inr high ↦ let none : times l.number o ≡ 0 = numbers.below l.number high in let one : 1 ≤ times l.number o = own-times o l named in absurd (omega arith)
-]
-
-same-more : (o : Labelled) (ys xs : List Labelled) → ((n : ℕ) → times n o + sum_by (times n) ys ≤ 1) → AllSameFor ys xs → AllSameFor ys (o ∷ xs)
-same-more o [] xs once h = tt
-same-more o (y ∷ ys) xs once h = (
-  (λ l named. (
-    λ has_o.
-        let one : 1 ≤ times l.number y = own-times y l named in
-        let other : 1 ≤ times l.number o = has-times l.number o has_o in
-        let sum : sum_by (times l.number) (y ∷ ys) ≡ times l.number y + sum_by (times l.number) ys = sum_by-cons (times l.number) y ys in
-        let most : times l.number o + sum_by (times l.number) (y ∷ ys) ≤ 1 = once l.number in
-        absurd (omega arith),
-    h.0 l named,
-  )),
-  same-more o ys xs (λ n. omega (arith, once n, sum_by-cons (times n) y ys)) h.1,
-)
-
-same-all : (xs : List Labelled) → ((n : ℕ) → sum_by (times n) xs ≤ 1) → AllSameFor xs xs
-same-all [] once = tt
-same-all (o ∷ os) once = (
-  (λ l named. (
-    λ h. refl,
-    none-same o l os (none-have l.number os
-        (omega (arith, once l.number, sum_by-cons (times l.number) o os, own-times o l named))),
-  )),
-  same-more o os os (λ n. omega (arith, once n, sum_by-cons (times n) o os)) (same-all os (λ n. omega (arith, once n, sum_by-cons (times n) o os))),
-)
+use Rattle.edit_core.proofs.RuleLinks.{map-joined, patches-in_item, rules-equal, has, stays-has, seen-typed, stays-kept}
+use Rattle.edit_core.proofs.RuleMatching.{Aligned, left_of, pick, NoneHas, NoneHave, SlotIs, EachSlot, IfPart, AllParts, taking-left, taking-match, taking-part, aligned-taken, pick-all_taken, AllGive, each-all_taken, each-open, none-has, none-have}
+use Rattle.edit_core.proofs.OldItems.{as_old, old_parts, AllNumbered, AllOrdered, numbered-more, all-numbered-more, length-next, AllSame, AllSameFor, own-number, own-times, low-number, same-all}
 
 module _ (typing : Typing) (suited : IsSuited typing) where
   abbrev rules : Rules

@@ -8,8 +8,8 @@ use Rattle.edit_core.specs.Application.{Fits, after_edit, FitInTurn, after_edits
 use Rattle.edit_core.specs.Around.{Around, standing_in, seen_from}
 use Rattle.edit_core.specs.Between.{stays, edits_between}
 use Rattle.edit_core.specs.Plain.{IsShort, patch_of}
-use Rattle.edit_core.specs.Typing.{Typing, Rules}
-use Rattle.edit_core.specs.Matching.{first_matching, by_first}
+use Rattle.edit_core.specs.Typing.{Typing, Rules, seen}
+use Rattle.edit_core.specs.Matching.{first_matching, by_first, same_item}
 use Rattle.edit_core.specs.Template.{template, numbered}
 use Rattle.edit_core.specs.Labelling.{IsSuited, IsLabelledBy}
 use Rattle.edit_core.specs.Rules.{patches_by_rules}
@@ -71,6 +71,12 @@ NumbersDiffer =
 -- the first new item that is the same is matched with one old item alone
 abbrev pub FirstMatchesOnce : Type 0
 FirstMatchesOnce = (typing : Typing) → MatchesOnce (first_matching typing)
+
+-- an old item that is the same as a new one keeps its node where it is matched with it
+abbrev pub MatchedItemsStay : Type 0
+MatchedItemsStay =
+    (typing : Typing) → IsSuited typing → (s : Setting) → IsLabelledBy typing s.type s.old → IsTrue (same_item typing s.type (seen s.old) s.new)
+    → IsTrue (stays s.old (reconciled (by_first typing) s).value)
 
 -- an equal value changes nothing, and where there are no edits, nothing is changed
 pub record ChangesNothing (s : Setting) (w : Written) : Type 0 where
