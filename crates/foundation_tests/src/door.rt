@@ -1,4 +1,4 @@
-ghost use Rattle.std.specs.Prelude.{◌≡◌, ◌<◌, ◌≤◌, IsTrue, false, length, IfOk, is_some};
+ghost use Rattle.std.specs.Prelude.{◌≡◌, ◌<◌, ◌≤◌, IsTrue, false, length, IfOk};
 
 use crate::streams::Only;
 use edge_core::{Calls, Door, DoorFault, Inputs, MemoryDoor, RealDoor};
@@ -20,8 +20,8 @@ fn inputs(alloc: Global, texts: &[&[u8]]) -> Result<Inputs, AllocError> {
 
 /// Writes back what the open link brings, to its end.
 fn echo_link<D: Door>(door: &mut D) -> Result<(), DoorFault>
-    requires { IsTrue (D.is_open door.old) }
-    ensures attached { D.is_attached door.new ≡ D.is_attached door.old }
+    requires { IsTrue (D.state door.old).is_open }
+    ensures { (D.state door.new).is_attached ≡ (D.state door.old).is_attached }
 {
     let mut room = [0; 8];
     for _ in 0..64 {
@@ -36,7 +36,7 @@ fn echo_link<D: Door>(door: &mut D) -> Result<(), DoorFault>
 
 /// Writes back what each link brings, and answers how many links there were.
 fn echo<D: Door>(door: &mut D, port: Option<u16>) -> Result<usize, DoorFault>
-    requires { D.is_open door.old ≡ false }
+    requires { (D.state door.old).is_open ≡ false }
 {
     door.attach(port)?;
     for links in 0..8 {
@@ -89,49 +89,6 @@ fn each_call_of_a_door_in_memory_fails_in_turn(rt: HostRuntime) -> Result<(), Fa
     Ok(())
 }
 
-/// Reads once from the only link, and writes until its room of four bytes is full.
-fn exchange(door: &mut MemoryDoor, room: &mut [u8]) -> Result<usize, DoorFault>
-    requires none_open { is_some door.old.links.current ≡ false }
-    requires has_room { 0 < length room.old }
-    ensures { IfOk result (λ n. n ≤ length room.new) }
-{
-    door.attach(Some(80))?;
-    if !door.accept()? {
-        return Ok(0);
-    }
-    let n = door.read(room)?;
-    door.write(b"four")?;
-    let _ = door.write(b"!");
-    door.shut();
-    Ok(n)
-}
-
-#[test]
-fn a_read_takes_what_the_cut_and_the_room_allow(rt: HostRuntime) -> Result<(), Fail> {
-    let cases: [(usize, usize, &[u8]); 6] = [
-        (1, 8, b"h"),
-        (7, 8, b"hello, "),
-        (1000, 8, b"hello, w"),
-        (7, 3, b"hel"),
-        (1000, 1, b"h"),
-        (1, 1, b"h"),
-    ];
-    for (cut, size, want) in cases {
-        let alloc = rt.alloc();
-        assert!(rt; cut > 0 && size > 0 && size <= 8);
-        let inputs = inputs(alloc, &[b"hello, world"])?;
-        let mut door = MemoryDoor::new(alloc, inputs, cut, 4, Calls::new(alloc))?;
-        let mut room = [0; 8];
-        let n = exchange(&mut door, &mut room[..size])?;
-        assert!(rt; n <= 8 && &room[..n] == want, "{cut} {size}");
-        assert!(rt;
-            holds(&door, 1, [Some(b"four"), None, None]),
-            "{cut} {size}"
-        );
-    }
-    Ok(())
-}
-
 #[test]
 fn the_real_door_takes_standard_streams_as_one_link(rt: HostRuntime) -> Result<(), Fail> {
     let mut door = RealDoor::new(rt, b"standard".as_slice(), Only(b"standard"));
@@ -142,8 +99,8 @@ fn the_real_door_takes_standard_streams_as_one_link(rt: HostRuntime) -> Result<(
 
 /// What the next link brings first. It is answered `pong`.
 fn pong<D: Door>(door: &mut D, room: &mut [u8]) -> Result<usize, DoorFault>
-    requires attached { IsTrue (D.is_attached door.old) }
-    requires none_open { D.is_open door.old ≡ false }
+    requires attached { IsTrue (D.state door.old).is_attached }
+    requires none_open { (D.state door.old).is_open ≡ false }
     requires has_room { 0 < length room.old }
     ensures { IfOk result (λ n. n ≤ length room.new) }
 {

@@ -1,19 +1,6 @@
 //! `msthost` makes values by the types of a schema, behind HTTP.
 #![tactic(auto)]
 
-mod answer;
-mod exit;
-mod host;
-mod link;
-mod load;
-mod report;
-mod serve;
-#[cfg(test)]
-mod tests;
-mod words;
-
-use crate::exit::Exit;
-use crate::report::report;
 use edge_core::{RealDoor, RealWorld};
 use list_core::Parts;
 use snap_core::Txt;
@@ -21,13 +8,14 @@ use std::alloc::{AllocError, Global};
 use std::process::ExitCode;
 use std::rt::Env;
 use std::{env, io};
+use top_call::{Exit, host, report_exit};
 
 fn main(rt: HostRuntime) -> ExitCode {
-    let mut world = RealWorld::new(rt, rt.stdout(), rt.stderr());
+    let mut world = RealWorld::new(rt.alloc(), rt, rt.stdout(), rt.stderr());
     let mut door = RealDoor::new(rt, rt.stdin(), rt.stdout());
     let status = match given_words(&rt) {
-        Ok(words) => host::host(rt.alloc(), words.as_slice(), &mut world, &mut door),
-        Err(exit) => report(&mut world, None, &exit),
+        Ok(words) => host(rt.alloc(), words.as_slice(), &mut world, &mut door),
+        Err(exit) => report_exit(&mut world, None, &exit),
     };
     ExitCode::from(status)
 }

@@ -1,5 +1,5 @@
 -- Walks through names, optional types, maybes and unions end, where no type leads back to itself.
-use Rattle.std.proofs.Common.{◌≡◌, ℕ, zero, suc, ◌+◌, ◌<◌, ◌≤◌, ◌||◌, List, [], ◌∷◌, length, find, cond, Bool, true, false, Contains, Option, Some, None, if◌then◌else◌, eqb, eqb-true, arith, refl, sym, ◌∙◌, ap, subst}
+use Rattle.std.proofs.Common.{◌≡◌, ℕ, zero, suc, ◌+◌, ◌<◌, ◌≤◌, ◌||◌, List, [], ◌∷◌, length, find, cond, Bool, true, false, Contains, Option, Some, None, if◌then◌else◌, eqb, eqb-true, arith, refl, sym, ◌∙◌, ap, subst, ◌&&◌, not}
 use Rattle.std.specs.List.{list_any, AllByRecursion, IsDistinct}
 use Rattle.std.proofs.lemmas.Option.{slice_get_within}
 use Rattle.std.proofs.lemmas.Map.Steps.{length-le_from_distinct_below}
@@ -7,12 +7,13 @@ use Rattle.snap_core.specs.Value.{Value, null, boolean, integer, text, list, dic
 use Rattle.snap_core.specs.declared.number.TypeNo.{TypeNo}
 use Rattle.snap_core.specs.declared.number.ModelNo.{ModelNo}
 use Rattle.type_core.specs.declared.shape.Shape.{Shape}
-use Rattle.type_core.specs.declared.shape.Shape.TheVariants.{Optional, Maybe, MaybeNull, Union, Named}
+use Rattle.type_core.specs.declared.shape.Shape.TheVariants.{Optional, Maybe, MaybeNull, Union, Safe, Named}
 use Rattle.type_core.specs.Table.{Table, shape_at, leads_of}
 use Rattle.type_core.specs.Names.{LeadsTo, at_once, by_way, named_step, named_within, named_by, shape_by}
 use Rattle.type_core.specs.Unions.{is_map, model_in, model_before, models_of, literal_at, is_literal, tag_of, tagged, only_model, chosen_by_field, chosen_by_tag, chosen_for_record, chosen}
 use Rattle.snap_core.specs.Value.{value_at}
-use Rattle.type_core.specs.Judging.{judged_by_choice, judged_step, judged_within, judged_by}
+use Rattle.type_core.specs.Identifiers.{is_safe, is_firm, of_property}
+use Rattle.type_core.specs.Judging.{is_null, shape_for, judged_by_choice, judged_step, judged_within, judged_by}
 
 -- the first of a list, and one of those after it
 pub Contains-first : {X : Type 0} (x : X) (xs : List X) → Contains (x ∷ xs) x
@@ -167,22 +168,63 @@ pub named_step-same : (f g : ℕ → ℕ) (t : ℕ) (shape : Shape) → ((u : Ty
 named_step-same f g t (Named u) same = same u (Contains-first u [])
 named_step-same f g t shape same = refl
 
+-- the shape of a type for a value is the type's shape, where there is one
+pub shape_for-is : (table : Table) (v : Value) (t : ℕ) (shape : Shape) → shape_for table v t ≡ Some shape → shape_at table t ≡ Some shape
+shape_for-is table v t shape h = by_test (is_firm table t && is_null v) h
+  where
+    by_test : (b : Bool) → (if b then None else shape_at table t) ≡ Some shape → shape_at table t ≡ Some shape
+    by_test true e = cc
+    by_test false e = e
+
+pub shape_for-at : (table : Table) (v : Value) (t : ℕ) (shape : Shape) → is_safe (Some shape) ≡ false → shape_at table t ≡ Some shape
+    → shape_for table v t ≡ Some shape
+shape_for-at table v t shape other e = rw (e, other) refl
+
+-- null is there for a safe reference of a property
+pub shape_for-property : (table : Table) (v : Value) (t : ℕ) (u : TypeNo) → shape_at table t ≡ Some (Safe u) → of_property table t ≡ true
+    → shape_for table v t ≡ Some (Safe u)
+shape_for-property table v t u e own = rw (e, own) refl
+
+pub shape_for-other : (table : Table) (v : Value) (t : ℕ) (u : TypeNo) → shape_at table t ≡ Some (Safe u) → is_null v ≡ false
+    → shape_for table v t ≡ Some (Safe u)
+shape_for-other table v t u e other = by_test (is_firm table t)
+  where
+    by_test : (b : Bool) → (if b && is_null v then None else shape_at table t) ≡ Some (Safe u)
+    by_test true = rw (other, e) refl
+    by_test false = e
+
+pub property-not_firm : (table : Table) (t : ℕ) (u : TypeNo) → shape_at table t ≡ Some (Safe u) → is_firm table t ≡ false → of_property table t ≡ true
+property-not_firm table t u e h = by_test (of_property table t) refl
+  where
+    by_test : (b : Bool) → of_property table t ≡ b → of_property table t ≡ true
+    by_test true own = own
+    by_test false own = let firm : is_firm table t ≡ true = rw (e, own) refl in cc
+
+pub shape_for-null : (table : Table) (t : ℕ) (u : TypeNo) → shape_for table null t ≡ Some (Safe u) → of_property table t ≡ true
+shape_for-null table t u h = by_test (of_property table t) refl
+  where
+    by_test : (b : Bool) → of_property table t ≡ b → of_property table t ≡ true
+    by_test true own = own
+    by_test false own =
+        let none : shape_for table null t ≡ None = rw (shape_for-is table null t (Safe u) h, own) refl in
+        cc
+
 -- after enough steps one more changes nothing
 pub judged_within-stays : (table : Table) → IsLoopless table → (v : Value) (n : ℕ) (seen : List ℕ) (t : ℕ)
     → IsTrail table seen t → length table.shapes ≤ n + length seen → judged_within table v n t ≡ judged_within table v (suc n) t
-judged_within-stays table loopless v zero seen t trail enough = by_shape (shape_at table t) refl
+judged_within-stays table loopless v zero seen t trail enough = by_shape (shape_for table v t) refl
   where
-    by_shape : (o : Option Shape) → shape_at table t ≡ o → None ≡ judged_step table v (judged_within table v zero) o
+    by_shape : (o : Option Shape) → shape_for table v t ≡ o → None ≡ judged_step table v (judged_within table v zero) o
     by_shape None e = refl
-    by_shape (Some shape) e = let short = IsTrail-short table loopless seen t shape trail e in absurd (omega arith)
+    by_shape (Some shape) e = let short = IsTrail-short table loopless seen t shape trail (shape_for-is table v t shape e) in absurd (omega arith)
 judged_within-stays table loopless v (suc n) seen t trail enough =
-    by_shape (shape_at table t) refl (λ shape u e h. judged_within-stays table loopless v n (t ∷ seen) u.0 (IsTrail-more table loopless seen t shape u trail e h) (omega arith))
+    by_shape (shape_for table v t) refl (λ shape u e h. judged_within-stays table loopless v n (t ∷ seen) u.0 (IsTrail-more table loopless seen t shape u trail e h) (omega arith))
   where
-    by_shape : (o : Option Shape) → shape_at table t ≡ o
+    by_shape : (o : Option Shape) → shape_for table v t ≡ o
         → ((shape : Shape) (u : TypeNo) → shape_at table t ≡ Some shape → Contains (leads_of shape) u → judged_within table v n u.0 ≡ judged_within table v (suc n) u.0)
         → judged_step table v (judged_within table v n) o ≡ judged_step table v (judged_within table v (suc n)) o
     by_shape None e further = refl
-    by_shape (Some shape) e further = judged_step-same table v (judged_within table v n) (judged_within table v (suc n)) shape (λ u h. further shape u e h)
+    by_shape (Some shape) e further = judged_step-same table v (judged_within table v n) (judged_within table v (suc n)) shape (λ u h. further shape u (shape_for-is table v t shape e) h)
 
 pub named_within-stays : (table : Table) → IsLoopless table → (n : ℕ) (seen : List ℕ) (t : ℕ)
     → IsTrail table seen t → length table.shapes ≤ n + length seen → named_within table n t ≡ named_within table (suc n) t
@@ -201,16 +243,20 @@ named_within-stays table loopless (suc n) seen t trail enough =
     by_shape (Some shape) e further = named_step-same (named_within table n) (named_within table (suc n)) t shape (λ u h. further shape u e h)
 
 -- so what judges a value at a type is one step, and then what judges it at the next
-pub judged_by-step : (table : Table) → IsLoopless table → (v : Value) (t : ℕ) → judged_by table v t ≡ judged_step table v (judged_by table v) (shape_at table t)
+pub judged_by-step : (table : Table) → IsLoopless table → (v : Value) (t : ℕ) → judged_by table v t ≡ judged_step table v (judged_by table v) (shape_for table v t)
 judged_by-step table loopless v t = judged_within-stays table loopless v (length table.shapes) [] t (IsTrail-none table t) (omega arith)
 
 pub named_by-step : (table : Table) → IsLoopless table → (t : ℕ) → named_by table t ≡ named_step (named_by table) t (shape_at table t)
 named_by-step table loopless t = named_within-stays table loopless (length table.shapes) [] t (IsTrail-none table t) (omega arith)
 
 -- the same at each kind of shape
-pub judged_by-at : (table : Table) → IsLoopless table → (v : Value) (t : ℕ) (shape : Shape) → shape_at table t ≡ Some shape
+pub judged_by-for : (table : Table) → IsLoopless table → (v : Value) (t : ℕ) (shape : Shape) → shape_for table v t ≡ Some shape
     → judged_by table v t ≡ judged_step table v (judged_by table v) (Some shape)
-judged_by-at table loopless v t shape e = judged_by-step table loopless v t ∙ ap (judged_step table v (judged_by table v)) e
+judged_by-for table loopless v t shape e = judged_by-step table loopless v t ∙ ap (judged_step table v (judged_by table v)) e
+
+pub judged_by-at : (table : Table) → IsLoopless table → (v : Value) (t : ℕ) (shape : Shape) → shape_at table t ≡ Some shape → is_safe (Some shape) ≡ false
+    → judged_by table v t ≡ judged_step table v (judged_by table v) (Some shape)
+judged_by-at table loopless v t shape e other = judged_by-for table loopless v t shape (shape_for-at table v t shape other e)
 
 pub named_by-at : (table : Table) → IsLoopless table → (t : ℕ) (shape : Shape) → shape_at table t ≡ Some shape
     → named_by table t ≡ named_step (named_by table) t (Some shape)

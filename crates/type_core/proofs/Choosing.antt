@@ -13,7 +13,7 @@ use Rattle.type_core.specs.Table.{Table, AreNamed, shape_at, properties_of}
 use Rattle.type_core.specs.Names.{named_step, named_within, named_by, shape_by}
 use Rattle.type_core.specs.Unions.{is_same, is_literal, property_at, literal_by, literal_at, model_in, model_before, models_of, tag_of, tagged, is_map, chosen_by_field, chosen_by_tag, chosen_for_record, chosen}
 use Rattle.snap_core.specs.Value.{value_at}
-use Rattle.type_core.specs.Makes.{Makes, IsMaybe, maybe, maybe_null, string, whole, truth, nothing, literal, enumeration, frozen, frozen_absent, optional, optional_absent, maybe_of_null, maybe_absent, maybe_other, union, refinement, array, array_absent, map, map_absent, model, name, MakesEach, no_more, one_more}
+use Rattle.type_core.specs.Makes.{Makes, IsMaybe, maybe, maybe_null, string, whole, truth, nothing, literal, enumeration, identifier, identifier_number, reference, safe, safe_of_null, safe_absent, frozen, frozen_absent, optional, optional_absent, maybe_of_null, maybe_absent, maybe_other, union, refinement, array, array_absent, map, map_absent, model, name, MakesEach, no_more, one_more}
 
 -- what is made of a scalar is that scalar, what is made of a list is a list, and of a record a record
 abbrev pub IsLike : Value → Value → Type 0
@@ -33,6 +33,12 @@ like-made table _ _ _ (truth t b e) = refl
 like-made table _ _ _ (nothing t e) = refl
 like-made table _ _ _ (literal t l v e same) = like-itself v
 like-made table _ _ _ (enumeration t ts s e among) = refl
+like-made table _ _ _ (identifier t s e) = refl
+like-made table _ _ _ (identifier_number t z e) = refl
+like-made table _ _ _ (reference t u v e key) = like-itself v
+like-made table _ _ _ (safe t u v e key) = like-itself v
+like-made table _ _ _ (safe_of_null t u e own) = refl
+like-made table _ _ _ (safe_absent t u e own) = tt
 like-made table _ _ _ (frozen t v e) = like-itself v
 like-made table _ _ _ (frozen_absent t e) = tt
 like-made table _ _ _ (optional t u d v s e made) = like-made table u.0 (Some v) s made
@@ -69,6 +75,12 @@ name-made table w _ _ _ (truth t b e) h = cc
 name-made table w _ _ _ (nothing t e) h = cc
 name-made table w _ _ _ (literal t l v e same) h = cc
 name-made table w _ _ _ (enumeration t ts s e among) h = cc
+name-made table w _ _ _ (identifier t s e) h = cc
+name-made table w _ _ _ (identifier_number t z e) h = cc
+name-made table w _ _ _ (reference t u v e key) h = cc
+name-made table w _ _ _ (safe t u v e key) h = cc
+name-made table w _ _ _ (safe_of_null t u e own) h = cc
+name-made table w _ _ _ (safe_absent t u e own) h = cc
 name-made table w _ _ _ (frozen t v e) h = cc
 name-made table w _ _ _ (frozen_absent t e) h = cc
 name-made table w _ _ _ (optional t u d v s e made) h = cc
@@ -112,6 +124,12 @@ model-made table k _ _ _ (truth t b e) h = tt
 model-made table k _ _ _ (nothing t e) h = tt
 model-made table k _ _ _ (literal t l v e same) h = cc
 model-made table k _ _ _ (enumeration t ts s e among) h = tt
+model-made table k _ _ _ (identifier t s e) h = tt
+model-made table k _ _ _ (identifier_number t z e) h = tt
+model-made table k _ _ _ (reference t u v e key) h = cc
+model-made table k _ _ _ (safe t u v e key) h = cc
+model-made table k _ _ _ (safe_of_null t u e own) h = tt
+model-made table k _ _ _ (safe_absent t u e own) h = tt
 model-made table k _ _ _ (frozen t v e) h = cc
 model-made table k _ _ _ (frozen_absent t e) h = tt
 model-made table k _ _ _ (optional t u d v s e made) h = cc

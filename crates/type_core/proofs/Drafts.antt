@@ -1,11 +1,12 @@
 -- The faults of a table, pass by pass, and a table without one.
 use Rattle.std.proofs.Common.{◌≡◌, ℕ, ◌<◌, List, length, Bool, true, false, IsTrue, Option, Some, None, refl, sym, ap, ◌∙◌, subst, inl, inr, arith}
-use Rattle.std.specs.Prelude.{◌≢◌, ◌⊎◌, MatchBool, IsSome, IfOk, Result, Ok, Err}
+use Rattle.std.specs.Prelude.{◌⊎◌, MatchBool, IsSome, IfOk, Result, Ok, Err}
 use Rattle.std.proofs.lemmas.Option.{slice_get_within}
 use Rattle.snap_core.specs.Value.{Value}
 use Rattle.snap_core.specs.declared.snap.Snap.{Snap}
 use Rattle.snap_core.specs.declared.number.TypeNo.{TypeNo}
 use Rattle.snap_core.specs.declared.number.ModelNo.{ModelNo}
+use Rattle.type_core.specs.declared.shape.Shape.{Shape}
 use Rattle.type_core.specs.declared.shape.Shape.TheVariants.{Optional, Union}
 use Rattle.pointer_core.specs.declared.schema_rule.SchemaRule.{SchemaRule}
 use Rattle.pointer_core.specs.declared.schema_rule.SchemaRule.TheVariants as rule
@@ -13,11 +14,12 @@ use Rattle.type_core.specs.declared.rule.DraftError.{DraftError}
 use Rattle.type_core.specs.declared.rule.DraftError.TheVariants as fault
 use Rattle.type_core.specs.Table.{Table, Catalog, IsBegun, plan_of, shape_at, default_at}
 use Rattle.type_core.specs.Names.{LeadsTo, named_by}
+use Rattle.type_core.specs.Identifiers.{is_identifier, is_misplaced, misleads}
 use Rattle.type_core.specs.Unions.{are_apart}
 use Rattle.type_core.specs.Making.{absent_made, default_made, absent}
 use Rattle.type_core.specs.Makes.{Makes}
-use Rattle.type_core.specs.Faults.{HasFault, name, union, «default», pass_of, order_of, Precedes, IsFirstFault, IfWrong}
-use Rattle.type_core.specs.Sound.{AreMade, AreAll, IsSound, HasDefault}
+use Rattle.type_core.specs.Faults.{HasFault, name, identifier, target, union, «default», pass_of, order_of, Precedes, IsFirstFault, IfWrong}
+use Rattle.type_core.specs.Sound.{AreMade, AreAll, IsOptional, IsSound, HasDefault}
 use Rattle.type_core.specs.Passes.{IsFaultless, IsFirstOf, IsMissing}
 use Rattle.type_core.proofs.Chains.{named_by-at}
 use Rattle.type_core.proofs.Laws.{made_by-complete}
@@ -25,6 +27,12 @@ use Rattle.type_core.proofs.Laws.{made_by-complete}
 -- what each fault says
 pub at_name : (table : Table) (t : ℕ) → HasFault table t rule.Name → LeadsTo table t t
 at_name table _ (name t back) = back
+
+pub at_identifier : (table : Table) (t : ℕ) → HasFault table t rule.Identifier → is_misplaced table t ≡ true
+at_identifier table _ (identifier t misplaced) = misplaced
+
+pub at_target : (table : Table) (t : ℕ) → HasFault table t rule.Target → misleads table t ≡ true
+at_target table _ (target t led) = led
 
 pub at_union : (table : Table) (t : ℕ) → HasFault table t rule.Union → (ms : List TypeNo) × (shape_at table t ≡ Some (Union ms)) × (are_apart table ms ≡ false)
 at_union table _ (union t ms shape apart) = (ms, shape, apart)
@@ -41,6 +49,16 @@ LeadsTo-within table _ _ (LeadsTo.by_way t shape u w is c on) = slice_get_within
 -- a fault is at one of the table's types
 HasFault-within : (table : Table) (t : ℕ) (rule : SchemaRule) → HasFault table t rule → t < length table.shapes
 HasFault-within table _ _ (name t back) = LeadsTo-within table t t back
+HasFault-within table _ _ (identifier t misplaced) = by_shape (shape_at table t) refl
+  where
+    by_shape : (o : Option Shape) → shape_at table t ≡ o → t < length table.shapes
+    by_shape (Some shape) e = slice_get_within table.shapes t shape e
+    by_shape None e = let none : is_misplaced table t ≡ false = rw e refl in cc
+HasFault-within table _ _ (target t led) = by_shape (shape_at table t) refl
+  where
+    by_shape : (o : Option Shape) → shape_at table t ≡ o → t < length table.shapes
+    by_shape (Some shape) e = slice_get_within table.shapes t shape e
+    by_shape None e = let none : misleads table t ≡ false = rw e refl in cc
 HasFault-within table _ _ (union t ms shape apart) = slice_get_within table.shapes t (Union ms) shape
 HasFault-within table _ _ («default» t u d shape none) = slice_get_within table.shapes t (Optional u d) shape
 
@@ -56,55 +74,61 @@ union_fault table t ms shape true is = λ fault.
     cc
 union_fault table t ms shape false is = union t ms shape (sym is)
 
--- the rules that a type can be at fault by
-fault_rule : (table : Table) (t : ℕ) (r : SchemaRule) → HasFault table t r → (r ≡ rule.Name) ⊎ (r ≡ rule.Union) ⊎ (r ≡ rule.Default)
-fault_rule table _ _ (name t back) = inl refl
-fault_rule table _ _ (union t ms shape apart) = inr (inl refl)
-fault_rule table _ _ («default» t u d shape none) = inr (inr refl)
+-- what holds of each rule that a type can be at fault by
+each_rule : (table : Table) (t : ℕ) (r : SchemaRule) (P : SchemaRule → Type 0)
+    → P rule.Name → P rule.Identifier → P rule.Target → P rule.Union → P rule.Default → HasFault table t r → P r
+each_rule table _ _ P a b c d e (name t back) = a
+each_rule table _ _ P a b c d e (identifier t misplaced) = b
+each_rule table _ _ P a b c d e (target t led) = c
+each_rule table _ _ P a b c d e (union t ms shape apart) = d
+each_rule table _ _ P a b c d e («default» t u given shape none) = e
 
--- no type is at fault by another rule
-no_other : (table : Table) (t : ℕ) (r : SchemaRule) → r ≢ rule.Name → r ≢ rule.Union → r ≢ rule.Default → ¬ (HasFault table t r)
-no_other table t r a b c fault = go (fault_rule table t r fault) where
-  go : (r ≡ rule.Name) ⊎ (r ≡ rule.Union) ⊎ (r ≡ rule.Default) → ⊥
-  go (inl e) = a e
-  go (inr (inl e)) = b e
-  go (inr (inr e)) = c e
-
-no_shape : (table : Table) (t : ℕ) → ¬ (HasFault table t rule.Shape)
-no_shape table t = no_other table t rule.Shape (λ e. cc) (λ e. cc) (λ e. cc)
-
-no_twice : (table : Table) (t : ℕ) → ¬ (HasFault table t rule.Twice)
-no_twice table t = no_other table t rule.Twice (λ e. cc) (λ e. cc) (λ e. cc)
-
-no_history : (table : Table) (t : ℕ) → ¬ (HasFault table t rule.History)
-no_history table t = no_other table t rule.History (λ e. cc) (λ e. cc) (λ e. cc)
-
-no_target : (table : Table) (t : ℕ) → ¬ (HasFault table t rule.Target)
-no_target table t = no_other table t rule.Target (λ e. cc) (λ e. cc) (λ e. cc)
+-- nothing is wrong with a type by a rule of the first pass that comes before another
+abbrev IsFreeBefore : Table → ℕ → ℕ → SchemaRule → Type 0
+IsFreeBefore table order t r = pass_of r ≡ 0 → order_of r < order → HasFault table t r → ⊥
 
 -- the first pass at one type
-pub first_name : (table : Table) (t : ℕ) → LeadsTo table t t → IsFirstOf table 0 t rule.Name
-first_name table t back = record { fault = name t back; of_pass = refl; first = λ other pass lower. absurd (omega arith) }
+module _ (table : Table) (t : ℕ) where
+  pub first_name : LeadsTo table t t → IsFirstOf table 0 t rule.Name
+  first_name back = record { fault = name t back; of_pass = refl; first = λ other pass lower. absurd (omega arith) }
 
-pub first_union : (table : Table) (t : ℕ) → ¬ (LeadsTo table t t) → HasFault table t rule.Union → IsFirstOf table 0 t rule.Union
-first_union table t loopless fault = record { fault = fault; of_pass = refl; first = before } where
-  before : (other : SchemaRule) → pass_of other ≡ 0 → order_of other < order_of rule.Union → ¬ (HasFault table t other)
-  before rule.Name pass lower = λ h. loopless (at_name table t h)
-  before rule.Union pass lower = absurd (omega arith)
-  before rule.Default pass lower = absurd (omega arith)
-  before rule.Shape pass lower = no_shape table t
-  before rule.Twice pass lower = no_twice table t
-  before rule.History pass lower = no_history table t
-  before rule.Target pass lower = no_target table t
+  module _ (loopless : ¬ (LeadsTo table t t)) where
+    pub first_identifier : is_misplaced table t ≡ true → IsFirstOf table 0 t rule.Identifier
+    first_identifier misplaced = record {
+      fault = identifier t misplaced;
+      of_pass = refl;
+      first = λ other pass lower h. each_rule table t other (IsFreeBefore table 1 t) (λ p q f. loopless (at_name table t f))
+          (λ p q f. absurd (omega (arith, q))) (λ p q f. absurd (omega (arith, q))) (λ p q f. absurd (omega (arith, q))) (λ p q f. absurd (omega (arith, p))) h pass lower h;
+    }
 
-pub IsFaultless-type : (table : Table) (t : ℕ) → ¬ (LeadsTo table t t) → ¬ (HasFault table t rule.Union) → IsFaultless table 0 t
-IsFaultless-type table t loopless apart rule.Name pass = λ h. loopless (at_name table t h)
-IsFaultless-type table t loopless apart rule.Union pass = apart
-IsFaultless-type table t loopless apart rule.Default pass = absurd (omega arith)
-IsFaultless-type table t loopless apart rule.Shape pass = no_shape table t
-IsFaultless-type table t loopless apart rule.Twice pass = no_twice table t
-IsFaultless-type table t loopless apart rule.History pass = no_history table t
-IsFaultless-type table t loopless apart rule.Target pass = no_target table t
+    module _ (placed : is_misplaced table t ≡ false) where
+      not_misplaced : HasFault table t rule.Identifier → ⊥
+      not_misplaced f = let is = at_identifier table t f in cc
+
+      pub first_target : misleads table t ≡ true → IsFirstOf table 0 t rule.Target
+      first_target leads = record {
+        fault = target t leads;
+        of_pass = refl;
+        first = λ other pass lower h. each_rule table t other (IsFreeBefore table 2 t) (λ p q f. loopless (at_name table t f))
+            (λ p q f. not_misplaced f) (λ p q f. absurd (omega (arith, q))) (λ p q f. absurd (omega (arith, q))) (λ p q f. absurd (omega (arith, p))) h pass lower h;
+      }
+
+      module _ (led : misleads table t ≡ false) where
+        not_misled : HasFault table t rule.Target → ⊥
+        not_misled f = let is = at_target table t f in cc
+
+        pub first_union : HasFault table t rule.Union → IsFirstOf table 0 t rule.Union
+        first_union fault = record {
+          fault = fault;
+          of_pass = refl;
+          first = λ other pass lower h. each_rule table t other (IsFreeBefore table 3 t) (λ p q f. loopless (at_name table t f))
+              (λ p q f. not_misplaced f) (λ p q f. not_misled f) (λ p q f. absurd (omega (arith, q))) (λ p q f. absurd (omega (arith, p))) h pass lower h;
+        }
+
+        pub IsFaultless-type : ¬ (HasFault table t rule.Union) → IsFaultless table 0 t
+        IsFaultless-type apart r pass h =
+            each_rule table t r (λ r. pass_of r ≡ 0 → HasFault table t r → ⊥) (λ p f. loopless (at_name table t f)) (λ p f. not_misplaced f) (λ p f. not_misled f)
+            (λ p f. apart f) (λ p f. absurd (omega (arith, p))) h pass h
 
 -- the first pass as a whole
 pub first_of_pass : (table : Table) (t : ℕ) (rule : SchemaRule) → ((k : ℕ) → k < t → IsFaultless table 0 k) → IsFirstOf table 0 t rule → IsFirstFault table t rule
@@ -127,7 +151,7 @@ nothing_made table defaults loopless all t missing s makes =
     let shape : shape_at table t ≡ Some (Optional missing.of missing.given) = missing.shape in
     let self : named_by table t ≡ t = named_by-at table loopless t (Optional missing.of missing.given) shape in
     let none : absent table defaults t ≡ default_made None =
-    ap (λ (k : ℕ). absent_made defaults k (shape_at table k)) self ∙ ap (absent_made defaults t) shape ∙ ap default_made missing.unknown in
+    ap (λ (k : ℕ). absent_made table defaults k (shape_at table k)) self ∙ ap (absent_made table defaults t) shape ∙ ap default_made missing.unknown in
     cc
 
 -- a default that is known is made
@@ -149,29 +173,36 @@ first_missing table defaults faultless made all t missing before = record { faul
       (nothing_made table defaults (λ k back. faultless k rule.Name refl (name k back)) all t missing)
 
   first : (u : ℕ) (other : SchemaRule) → Precedes (u, other) (t, rule.Default) → ¬ (HasFault table u other)
-  first u rule.Name earlier = faultless u rule.Name refl
-  first u rule.Union earlier = faultless u rule.Union refl
-  first u rule.Shape earlier = no_shape table u
-  first u rule.Twice earlier = no_twice table u
-  first u rule.History earlier = no_history table u
-  first u rule.Target earlier = no_target table u
-  first u rule.Default (inl lower) = absurd (omega arith)
-  first u rule.Default (inr (inl earlier)) = no_default_fault table defaults made u (before u earlier.1)
-  first u rule.Default (inr (inr same)) = absurd (omega (arith, same.2))
+  first u other earlier h =
+      each_rule table u other (λ r. Precedes (u, r) (t, rule.Default) → HasFault table u r → ⊥) (λ e f. faultless u rule.Name refl f)
+      (λ e f. faultless u rule.Identifier refl f) (λ e f. faultless u rule.Target refl f) (λ e f. faultless u rule.Union refl f) later h earlier h
+    where
+      later : Precedes (u, rule.Default) (t, rule.Default) → HasFault table u rule.Default → ⊥
+      later (inl lower) f = absurd (omega arith)
+      later (inr (inl earlier)) f = no_default_fault table defaults made u (before u earlier.1) f
+      later (inr (inr same)) f = absurd (omega (arith, same.2))
 
 -- types that are sound have no fault
 pub no_fault : (types : Catalog) → IsSound types → (t : ℕ) (rule : SchemaRule) → ¬ (HasFault types.table t rule)
-no_fault types sound t rule.Name = λ fault. sound.loopless t (at_name types.table t fault)
-no_fault types sound t rule.Union = λ fault.
-    let f = at_union types.table t fault in
-    let apart : are_apart types.table f.0 ≡ true = sound.apart t f.0 f.1 in
-    let no : true ≡ false = sym apart ∙ f.2 in
-    cc
-no_fault types sound t rule.Shape = no_shape types.table t
-no_fault types sound t rule.Twice = no_twice types.table t
-no_fault types sound t rule.History = no_history types.table t
-no_fault types sound t rule.Target = no_target types.table t
-no_fault types sound t rule.Default = no_default_fault types.table types.defaults sound.defaults.made t (sound.defaults.known t)
+no_fault types sound t r h =
+    each_rule types.table t r (λ r. HasFault types.table t r → ⊥) (λ f. sound.loopless t (at_name types.table t f))
+    (λ f. let is = at_identifier types.table t f in let no = sound.placed t in cc) (λ f. let is = at_target types.table t f in let no = sound.led t in cc) apart
+    (no_default_fault types.table types.defaults sound.defaults.made t (sound.defaults.known t)) h h
+  where
+    apart : HasFault types.table t rule.Union → ⊥
+    apart fault =
+        let f = at_union types.table t fault in
+        let apart : are_apart types.table f.0 ≡ true = sound.apart t f.0 f.1 in
+        let no : true ≡ false = sym apart ∙ f.2 in
+        cc
+
+placed_of : (table : Table) (t : ℕ) → IsFaultless table 0 t → (b : Bool) → is_misplaced table t ≡ b → is_misplaced table t ≡ false
+placed_of table t faultless true e = absurd (faultless rule.Identifier refl (identifier t e))
+placed_of table t faultless false e = e
+
+led_of : (table : Table) (t : ℕ) → IsFaultless table 0 t → (b : Bool) → misleads table t ≡ b → misleads table t ≡ false
+led_of table t faultless true e = absurd (faultless rule.Target refl (target t e))
+led_of table t faultless false e = e
 
 told_apart : (table : Table) (t : ℕ) (ms : List TypeNo) → IsFaultless table 0 t → shape_at table t ≡ Some (Union ms)
     → (b : Bool) → are_apart table ms ≡ b → IsTrue (are_apart table ms)
@@ -179,14 +210,17 @@ told_apart table t ms faultless shape true e = e
 told_apart table t ms faultless shape false e = absurd (faultless rule.Union refl (union t ms shape e))
 
 pub IsSound-faultless : (table : Table) (root : ModelNo) (defaults : List (Option Snap)) → IsBegun (plan_of table) → root.0 < length table.models
-    → ((t : ℕ) → IsFaultless table 0 t) → AreMade table defaults → AreAll table defaults → ((t : ℕ) → HasDefault table defaults t)
+    → ((t : ℕ) → IsFaultless table 0 t) → AreMade table defaults → AreAll table defaults
+    → ((t : ℕ) (s : Value) → default_at defaults t ≡ Some s → IsOptional table t) → length defaults ≡ length table.shapes → ((t : ℕ) → HasDefault table defaults t)
     → IsSound (record { table = table; root = root; defaults = defaults })
-IsSound-faultless table root defaults begun within faultless made all known = record {
+IsSound-faultless table root defaults begun within faultless made all only count known = record {
   begun = begun;
   root = within;
   loopless = λ t back. faultless t rule.Name refl (name t back);
+  placed = λ t. placed_of table t (faultless t) (is_misplaced table t) refl;
+  led = λ t. led_of table t (faultless t) (misleads table t) refl;
   apart = λ t ms shape. told_apart table t ms (faultless t) shape (are_apart table ms) refl;
-  defaults = record { known = known; made = made };
+  defaults = record { known = known; made = made; only = only; count = count };
   all = all;
 }
 

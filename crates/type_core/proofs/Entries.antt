@@ -10,8 +10,10 @@ use Rattle.type_core.specs.declared.making.MakeError.{MakeError}
 use Rattle.type_core.specs.declared.making.MakeError.TheVariants.{Memory, Refused}
 use Rattle.type_core.specs.Table.{Table}
 use Rattle.type_core.specs.Made.{Answers, refused_as}
+use Rattle.type_core.specs.Identifiers.{ident_in}
+use Rattle.type_core.specs.Judging.{judged_by}
 use Rattle.type_core.specs.Making as making
-use Rattle.type_core.specs.Making.{Outcome, Maker, FieldMakers, maker_of, fields_of, under, entry_made, entries_made, property_made, properties_made, field_at}
+use Rattle.type_core.specs.Making.{Outcome, Maker, FieldMakers, keyed, maker_of, fields_of, under, entry_made, entries_made, property_made, properties_made, field_at}
 use Rattle.snap_core.proofs.Views.{entry-fields}
 
 -- the entries in front of what follows
@@ -96,7 +98,7 @@ module _ (table : Table) (defaults : List (Option Snap)) (t : ℕ) (fs : List Fi
 
   module _ (f : Field) (within : i < length fs) (here : f ≡ get_or fs i f) where
     abbrev value : Outcome Value
-    value = under f.key (maker_of table defaults (view f.value) t)
+    value = under f.key (keyed f.key (ident_in table (judged_by table (view f.value) t) (view f.value)) (maker_of table defaults (view f.value) t))
 
     abbrev others : Outcome Fields
     others = entries_made t (fields_of table defaults (fields_view (drop (i + 1) fs)))
@@ -111,15 +113,16 @@ module _ (table : Table) (defaults : List (Option Snap)) (t : ℕ) (fs : List Fi
     value-next : entries_before made (entry_made f.key value others) ≡ whole
     value-next =
         let P : List Field → Type 0 = λ gs. entries_before made (entries_made t (fields_of table defaults (fields_view gs))) ≡ whole in
-        let Q : List ℕ × Value → Type 0 = λ e. entries_before made (entry_made e.0 (under e.0 (maker_of table defaults e.1 t)) others) ≡ whole in
+        let Q : List ℕ × Value → Type 0 = λ e.
+        entries_before made (entry_made e.0 (under e.0 (keyed e.0 (ident_in table (judged_by table e.1 t) e.1) (maker_of table defaults e.1 t))) others) ≡ whole in
         subst Q (entry-fields f) (subst P fields_left so_far)
 
     pub value-handed_on : (e : MakeError) (result : Result (List Field) MakeError) → IsErrAnd result (λ r. r ≡ e)
-        → Answers {T = Snap} view (Err e) (under f.key (maker_of table defaults (view f.value) t))
+        → Answers {T = Snap} view (Err e) value
         → Answers {T = List Field} fields_view result (entries_made t (fields_of table defaults (fields_view fs)))
     value-handed_on = entry-handed_on made f.key value others whole value-next
 
-    pub value-more : (key : List ℕ) (v : Snap) → Answers {T = Snap} view (Ok v) (under f.key (maker_of table defaults (view f.value) t)) → key ≡ f.key
+    pub value-more : (key : List ℕ) (v : Snap) → Answers {T = Snap} view (Ok v) value → key ≡ f.key
         → entries_before (made ++ record { key = key; value = v } ∷ []) (entries_made t (fields_of table defaults (fields_view (drop (i + 1) fs))))
         ≡ entries_made t (fields_of table defaults (fields_view fs))
     value-more = entry-more made f.key value others whole value-next

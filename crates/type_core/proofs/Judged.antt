@@ -3,14 +3,14 @@ use Rattle.std.proofs.Common.{◌≡◌, ℕ, suc, zero, ◌+◌, ◌-◌, ◌<�
 use Rattle.snap_core.specs.Value.{Value}
 use Rattle.type_core.specs.declared.shape.Shape.{Shape}
 use Rattle.type_core.specs.declared.judging.Step.{Step}
-use Rattle.type_core.specs.Table.{Table, shape_at}
-use Rattle.type_core.specs.Judging.{judged_step, judged_within}
+use Rattle.type_core.specs.Table.{Table}
+use Rattle.type_core.specs.Judging.{shape_for, judged_step, judged_within}
 use Rattle.type_core.specs.JudgingSteps.{judged_after}
 
 module _ (table : Table) (v : Value) (most i at : ℕ) (whole : Option Shape) (so_far : judged_within table v (most - i) at ≡ whole) where
   -- the step at this type comes to the whole
   pub judged-next : (step : Step) → i < most
-      → ((further : ℕ → Option Shape) → judged_after further step ≡ judged_step table v further (shape_at table at))
+      → ((further : ℕ → Option Shape) → judged_after further step ≡ judged_step table v further (shape_for table v at))
       → judged_after (judged_within table v (most - (i + 1))) step ≡ whole
   judged-next step within taken =
       let e : most - i ≡ suc (most - (i + 1)) = omega arith in

@@ -1,8 +1,10 @@
 pub mod Again
 pub mod Plans
 pub mod Loops
+pub mod Marking
 pub mod Rounds
 pub mod Drafts
+pub mod Finding
 pub mod Outcomes
 pub mod Chains
 pub mod Chars
@@ -18,3 +20,9 @@ pub mod Tagging
 pub mod Telling
 pub mod Meeting
 pub mod Examples
+pub mod SeenKeys
+pub mod Targets
+pub mod Oneness
+pub mod LevelLemmas
+pub mod TakenLemmas
+pub mod ApartLemmas

@@ -6,7 +6,10 @@ use Rattle.snap_core.specs.declared.snap.Snap.{Snap}
 use Rattle.type_core.specs.declared.shape.Property.{Property}
 use Rattle.type_core.specs.Table.{Table}
 use Rattle.snap_core.specs.Value.{value_at}
-use Rattle.type_core.specs.Making.{Outcome, under, Maker, default_made, absent, part_made, entry_made, field_at, property_made, list_of, record_of, maker_of, fields_of, made_by}
+use Rattle.pointer_core.specs.declared.refusal.Rule.TheVariants.{Key}
+use Rattle.snap_core.specs.declared.ident.Ident.{Ident}
+use Rattle.type_core.specs.Identifiers.{is_keyed}
+use Rattle.type_core.specs.Making.{Outcome, refused, keyed, under, Maker, default_made, absent, part_made, entry_made, field_at, property_made, list_of, record_of, maker_of, fields_of, made_by}
 
 -- what an item or an entry in front that is made comes from
 pub part_made-Ok : (o : Outcome Value) (rest : Outcome Items) (token : List ℕ) (ps : Items)
@@ -46,6 +49,15 @@ property_made-made_by table defaults p ms = ap (property_made (absent table defa
     by_value : (x : Option Value) → property_made (absent table defaults) p (option_map (maker_of table defaults) x) ≡ made_by table defaults p.of.0 x
     by_value None = refl
     by_value (Some v) = refl
+
+-- a value that is made under its key stands under its identifier
+pub keyed-Ok : (key : List ℕ) (i : Option Ident) (o : Outcome Value) (v : Value) → keyed key i o ≡ Ok v → (o ≡ Ok v) × (is_keyed key i ≡ true)
+keyed-Ok key i (Err e) v h = cc
+keyed-Ok key i (Ok w) v h = by_test (is_keyed key i) refl h
+  where
+    by_test : (b : Bool) → is_keyed key i ≡ b → (if b then Ok w else refused Key) ≡ Ok v → (◌≡◌ {A = Outcome Value} (Ok w) (Ok v)) × (is_keyed key i ≡ true)
+    by_test true e g = (g, e)
+    by_test false e g = cc
 
 -- a default that is made is known
 pub default_made-Ok : (o : Option Value) (s : Value) → default_made o ≡ Ok s → o ≡ Some s

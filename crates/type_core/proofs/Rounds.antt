@@ -57,6 +57,12 @@ AreSoFar-more table defaults t s far new =
             more_made (view d) u.0 v (rw (← same_type, ← same_given, e.1) new.made)
         | inr e ↦ more_made (view d) u.0 v (far.kept k v e u d shape)
       ];
+      only = λ k v h. elim (default_at-set defaults t s k v h) [
+        | inl e ↦
+            let P : ℕ → Type 0 = λ n. shape_at table n ≡ Some (Optional new.of new.given) in
+            (new.of, new.given, subst P (sym e.0) new.shape)
+        | inr e ↦ far.only k v e
+      ];
       count = length-set defaults t (Some s) ∙ far.count;
     }
 

@@ -8,7 +8,7 @@ use Rattle.type_core.specs.declared.shape.Shape.TheVariants.{Optional}
 use Rattle.type_core.specs.Table.{Table, shape_at, default_at}
 use Rattle.type_core.specs.Making.{maker_of}
 use Rattle.type_core.specs.Makes.{is_light}
-use Rattle.type_core.specs.Sound.{AreMade}
+use Rattle.type_core.specs.Sound.{AreMade, IsOptional}
 
 -- how many types have no default so far
 abbrev pub unknown_count : List (Option Snap) → ℕ
@@ -20,6 +20,7 @@ pub record AreSoFar (table : Table) (defaults : List (Option Snap)) : Type 0 whe
   pub kept : (t : ℕ) (s : Value) → default_at defaults t ≡ Some s
       → (u : TypeNo) (d : Snap) → shape_at table t ≡ Some (Optional u d)
       → maker_of table defaults (view d) u.0 ≡ Ok s
+  pub only : (t : ℕ) (s : Value) → default_at defaults t ≡ Some s → IsOptional table t
   pub count : length defaults ≡ length table.shapes
 
 -- a default that isn't known yet

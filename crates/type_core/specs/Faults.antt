@@ -1,5 +1,5 @@
 -- What is wrong with a table of types, and which fault comes first.
-use Rattle.std.specs.Prelude.{◌≡◌, ℕ, ◌<◌, ◌⊎◌, List, false, Some, None, Result, Ok, Err}
+use Rattle.std.specs.Prelude.{◌≡◌, ℕ, ◌<◌, ◌⊎◌, List, IsTrue, false, Some, None, Result, Ok, Err}
 use Rattle.snap_core.specs.Value.{Value}
 use Rattle.snap_core.specs.declared.snap.Snap.{Snap}
 use Rattle.snap_core.specs.declared.number.TypeNo.{TypeNo}
@@ -10,6 +10,7 @@ use Rattle.type_core.specs.declared.rule.DraftError.{DraftError}
 use Rattle.type_core.specs.declared.rule.DraftError.TheVariants as fault
 use Rattle.type_core.specs.Table.{Table, shape_at}
 use Rattle.type_core.specs.Names.{LeadsTo}
+use Rattle.type_core.specs.Identifiers.{is_misplaced, misleads}
 use Rattle.type_core.specs.Unions.{are_apart}
 use Rattle.type_core.specs.Makes.{Makes}
 
@@ -17,6 +18,10 @@ use Rattle.type_core.specs.Makes.{Makes}
 pub data HasFault (table : Table) : ℕ → SchemaRule → Type 0 where
   -- a type leads back to itself with no list, record or model between
   name : (t : ℕ) → LeadsTo table t t → HasFault table t rule.Name
+  -- an identifier type stands elsewhere than directly at one property of a model
+  identifier : (t : ℕ) → IsTrue (is_misplaced table t) → HasFault table t rule.Identifier
+  -- a reference leads to no model with an identifier, or a safe one stands where it can't be cleared
+  target : (t : ℕ) → IsTrue (misleads table t) → HasFault table t rule.Target
   -- the members of a union aren't told apart
   union : (t : ℕ) (ms : List TypeNo) → shape_at table t ≡ Some (Union ms) → are_apart table ms ≡ false
       → HasFault table t rule.Union
@@ -25,7 +30,7 @@ pub data HasFault (table : Table) : ℕ → SchemaRule → Type 0 where
   «default» : (t : ℕ) (u : TypeNo) (d : Snap) → shape_at table t ≡ Some (Optional u d)
       → ((s : Value) → ¬ (Makes table t None s)) → HasFault table t rule.Default
 
--- faults are looked for in two passes: names and unions, then defaults
+-- faults are looked for in two passes: names, identifiers, references and unions, then defaults
 abbrev pub pass_of : SchemaRule → ℕ
 pass_of rule.Default = 1
 pass_of _ = 0
@@ -33,8 +38,10 @@ pass_of _ = 0
 -- the order of the rules at one type in one pass
 abbrev pub order_of : SchemaRule → ℕ
 order_of rule.Name = 0
-order_of rule.Union = 1
-order_of _ = 2
+order_of rule.Identifier = 1
+order_of rule.Target = 2
+order_of rule.Union = 3
+order_of _ = 4
 
 -- one fault comes before another: by pass, then by type, then by the order of the rules
 abbrev pub Precedes : ℕ × SchemaRule → ℕ × SchemaRule → Type 0

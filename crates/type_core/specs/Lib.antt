@@ -1,5 +1,6 @@
 pub mod Table
 pub mod Names
+pub mod Identifiers
 pub mod Unions
 pub mod Judging
 pub mod Making
@@ -11,3 +12,14 @@ pub mod JudgingSteps
 pub mod Reaching
 pub mod Defaulting
 pub mod Passes
+pub mod Marks
+pub mod Standings
+pub mod Targets
+pub mod Doubled
+pub mod Seen
+pub mod Finding
+pub mod Levels
+pub mod NameEnds
+pub mod ScalarSets
+pub mod Taking
+pub mod Literals

@@ -6,11 +6,13 @@ use Rattle.snap_core.specs.declared.snap.Snap.{Snap}
 use Rattle.snap_core.specs.declared.number.ModelNo.{ModelNo}
 use Rattle.snap_core.specs.declared.number.TypeNo.{TypeNo}
 use Rattle.type_core.specs.declared.shape.Shape.{Shape}
-use Rattle.type_core.specs.declared.shape.Shape.TheVariants.{Str, Integer, Boolean, Null, Literal, Enumeration, Frozen, Optional, Maybe, MaybeNull, Union, Refinement, Array, Map, Model, Named}
+use Rattle.type_core.specs.declared.shape.Shape.TheVariants.{Str, Integer, Boolean, Null, Literal, Enumeration, Identifier, IdentifierNumber, Frozen, Optional, Maybe, MaybeNull, Union, Refinement, Array, Map, Model, Reference, Safe, Named}
 use Rattle.type_core.specs.declared.shape.Condition.{Condition}
 use Rattle.type_core.specs.declared.shape.Property.{Property}
 use Rattle.type_core.specs.Table.{Table, shape_at, properties_of}
 use Rattle.type_core.specs.Names.{shape_by}
+use Rattle.type_core.specs.Identifiers.{is_key, of_property, ident_in, is_keyed}
+use Rattle.type_core.specs.Judging.{judged_by}
 use Rattle.type_core.specs.Unions.{is_same, is_based, chosen}
 use Rattle.type_core.specs.Making.{admits, fits, is_within}
 
@@ -36,6 +38,20 @@ mutual
         → IsTrue (is_same (view l) v) → Makes table t (Some v) v
     enumeration : (t : ℕ) (ts : List (List ℕ)) (s : List ℕ) → shape_at table t ≡ Some (Enumeration ts)
         → Contains ts s → Makes table t (Some (text s)) (text s)
+    -- an identifier is made of a text, or of an integer
+    identifier : (t : ℕ) (s : List ℕ) → shape_at table t ≡ Some Identifier → Makes table t (Some (text s)) (text s)
+    identifier_number : (t : ℕ) (z : ℤ) → shape_at table t ≡ Some IdentifierNumber
+        → Makes table t (Some (integer z)) (integer z)
+    -- a reference makes a value of the kind of the identifiers that it leads to
+    reference : (t : ℕ) (u : TypeNo) (v : Value) → shape_at table t ≡ Some (Reference u) → IsTrue (is_key table u v)
+        → Makes table t (Some v) v
+    -- so does a safe reference; where it is a property's type, it makes null too, and null where no value is given
+    safe : (t : ℕ) (u : TypeNo) (v : Value) → shape_at table t ≡ Some (Safe u) → IsTrue (is_key table u v)
+        → Makes table t (Some v) v
+    safe_of_null : (t : ℕ) (u : TypeNo) → shape_at table t ≡ Some (Safe u) → IsTrue (of_property table t)
+        → Makes table t (Some null) null
+    safe_absent : (t : ℕ) (u : TypeNo) → shape_at table t ≡ Some (Safe u) → IsTrue (of_property table t)
+        → Makes table t None null
     -- a frozen type makes anything as it is, and null where no value is given
     frozen : (t : ℕ) (v : Value) → shape_at table t ≡ Some Frozen → Makes table t (Some v) v
     frozen_absent : (t : ℕ) → shape_at table t ≡ Some Frozen → Makes table t None null
@@ -82,12 +98,13 @@ mutual
     one_item : (t : ℕ) (v s : Value) (given made : Items) → Makes table t (Some v) s
         → MakesItems table t given made → MakesItems table t (part v given) (part s made)
 
-  -- each value of a record is made by the type, under its key
+  -- Each value of a record is made by the type, under its key; where a model with an identifier makes it, the
+  -- key is the identifier's text.
   pub data MakesValues (table : Table) : ℕ → Fields → Fields → Type 0 where
     no_values : (t : ℕ) → MakesValues table t no_members no_members
     one_value : (t : ℕ) (k : List ℕ) (v s : Value) (given made : Fields)
-        → Makes table t (Some v) s → MakesValues table t given made
-        → MakesValues table t (member k v given) (member k s made)
+        → Makes table t (Some v) s → IsTrue (is_keyed k (ident_in table (judged_by table v t) v))
+        → MakesValues table t given made → MakesValues table t (member k v given) (member k s made)
 
   -- Each property is made of the record's field of its name; where there is no such field, no value is given.
   pub data MakesEach (table : Table) : Fields → List Property → Fields → Type 0 where

@@ -7,14 +7,16 @@ use Rattle.snap_core.specs.Value.{Value, null, boolean, integer, text, list, dic
 use Rattle.snap_core.specs.declared.snap.Snap.{Snap}
 use Rattle.pointer_core.specs.Path.{Path}
 use Rattle.pointer_core.specs.declared.refusal.Rule.{Rule}
-use Rattle.pointer_core.specs.declared.refusal.Rule.TheVariants.{Mistyped, Refine, Large}
+use Rattle.pointer_core.specs.declared.refusal.Rule.TheVariants.{Mistyped, Refine, Key, Large}
 use Rattle.type_core.specs.declared.shape.Shape.{Shape}
-use Rattle.type_core.specs.declared.shape.Shape.TheVariants.{Frozen, Optional, Maybe, MaybeNull, Refinement, Array, Map, Model}
+use Rattle.type_core.specs.declared.shape.Shape.TheVariants.{Frozen, Optional, Maybe, MaybeNull, Refinement, Array, Map, Model, Safe}
 use Rattle.type_core.specs.declared.shape.Condition.{Condition}
 use Rattle.type_core.specs.declared.shape.Condition.TheVariants.{Min, Max, MinLength, MaxLength, StartsWith}
 use Rattle.type_core.specs.declared.shape.Property.{Property}
 use Rattle.type_core.specs.Table.{Table, Catalog, shape_at, properties_of, default_at}
 use Rattle.type_core.specs.Names.{named_by}
+use Rattle.snap_core.specs.declared.ident.Ident.{Ident}
+use Rattle.type_core.specs.Identifiers.{is_firm, ident_in, is_keyed}
 use Rattle.type_core.specs.Unions.{takes}
 use Rattle.type_core.specs.Judging.{judged_by}
 
@@ -72,18 +74,19 @@ default_made (Some v) = Ok v
 default_made None = mistyped
 
 -- what a type that stands at this number itself makes where no value is given
-abbrev pub absent_made : List (Option Snap) → ℕ → Option Shape → Outcome Value
-absent_made defaults t (Some (Optional u d)) = default_made (default_at defaults t)
-absent_made defaults t (Some (Maybe u)) = Ok null
-absent_made defaults t (Some (MaybeNull u)) = Ok null
-absent_made defaults t (Some Frozen) = Ok null
-absent_made defaults t (Some (Array u)) = Ok (list tt no_parts)
-absent_made defaults t (Some (Map u)) = Ok (dict tt no_members)
-absent_made defaults t _ = mistyped
+abbrev pub absent_made : Table → List (Option Snap) → ℕ → Option Shape → Outcome Value
+absent_made table defaults t (Some (Optional u d)) = default_made (default_at defaults t)
+absent_made table defaults t (Some (Maybe u)) = Ok null
+absent_made table defaults t (Some (MaybeNull u)) = Ok null
+absent_made table defaults t (Some Frozen) = Ok null
+absent_made table defaults t (Some (Array u)) = Ok (list tt no_parts)
+absent_made table defaults t (Some (Map u)) = Ok (dict tt no_members)
+absent_made table defaults t (Some (Safe u)) = if is_firm table t then mistyped else Ok null
+absent_made table defaults t _ = mistyped
 
 -- what a type makes where no value is given, names followed
 abbrev pub absent : Table → List (Option Snap) → Maker
-absent table defaults t = absent_made defaults (named_by table t) (shape_at table (named_by table t))
+absent table defaults t = absent_made table defaults (named_by table t) (shape_at table (named_by table t))
 
 -- one item in front of those that follow, unless one of them is refused
 abbrev pub part_made : Outcome Value → Outcome Items → Outcome Items
@@ -96,9 +99,15 @@ abbrev pub items_made : ℕ → ℕ → List Maker → Outcome Items
 items_made i t [] = Ok no_parts
 items_made i t (m ∷ ms) = part_made (under (decimal i) (m t)) (items_made (i + 1) t ms)
 
--- a field of a record: its key, and what making its value comes to
+-- a field of a record: its key, what making its value comes to at each type, and the identifier that its
+-- value has at each type
+pub record FieldMaker : Type 0 where
+  pub key : List ℕ
+  pub maker : Maker
+  pub identifier : ℕ → Option Ident
+
 abbrev pub FieldMakers : Type 0
-FieldMakers = List (List ℕ × Maker)
+FieldMakers = List FieldMaker
 
 -- the entry in front of those that follow, unless one of them is refused
 abbrev pub entry_made : List ℕ → Outcome Value → Outcome Fields → Outcome Fields
@@ -106,15 +115,21 @@ entry_made name (Err e) rest = Err e
 entry_made name (Ok v) (Err e) = Err e
 entry_made name (Ok v) (Ok made) = Ok (member name v made)
 
+-- a made value under its key, unless it has an identifier that is spelled otherwise
+abbrev pub keyed : List ℕ → Option Ident → Outcome Value → Outcome Value
+keyed key identifier (Err e) = Err e
+keyed key identifier (Ok v) = if is_keyed key identifier then Ok v else refused Key
+
 -- the values of a map, each by the type
 abbrev pub entries_made : ℕ → FieldMakers → Outcome Fields
 entries_made t [] = Ok no_members
-entries_made t (f ∷ fs) = entry_made f.0 (under f.0 (f.1 t)) (entries_made t fs)
+entries_made t (f ∷ fs) =
+    entry_made f.key (under f.key (keyed f.key (f.identifier t) (f.maker t))) (entries_made t fs)
 
 -- what stands under a key
 abbrev pub field_at : List ℕ → FieldMakers → Option Maker
 field_at key [] = None
-field_at key (f ∷ fs) = if bytes_eq key f.0 then Some f.1 else field_at key fs
+field_at key (f ∷ fs) = if bytes_eq key f.key then Some f.maker else field_at key fs
 
 -- what the property's type makes of the property's field, or where there is no such field
 abbrev pub property_made : Maker → Property → Option Maker → Outcome Value
@@ -171,7 +186,13 @@ abbrev mutual
   -- the fields of a record
   pub fields_of : Table → List (Option Snap) → Fields → FieldMakers
   fields_of table defaults no_members = []
-  fields_of table defaults (member k v ms) = (k, maker_of table defaults v) ∷ fields_of table defaults ms
+  fields_of table defaults (member k v ms) =
+      record {
+        key = k;
+        maker = maker_of table defaults v;
+        identifier = λ t. ident_in table (judged_by table v t) v;
+      }
+      ∷ fields_of table defaults ms
 
 -- a type's outcome for a value or none, its limits aside
 abbrev pub made_by : Table → List (Option Snap) → ℕ → Option Value → Outcome Value

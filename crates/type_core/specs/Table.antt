@@ -6,7 +6,7 @@ use Rattle.snap_core.specs.declared.snap.Snap.{Snap}
 use Rattle.snap_core.specs.Value.{Value, IsPlain, AreAscending}
 use Rattle.snap_core.specs.View.{view}
 use Rattle.type_core.specs.declared.shape.Shape.{Shape}
-use Rattle.type_core.specs.declared.shape.Shape.TheVariants.{Literal, Optional, Maybe, MaybeNull, Union, Refinement, Array, Map, Model, Named}
+use Rattle.type_core.specs.declared.shape.Shape.TheVariants.{Literal, Optional, Maybe, MaybeNull, Union, Refinement, Array, Map, Model, Reference, Safe, Named}
 use Rattle.type_core.specs.declared.shape.Property.{Property}
 use Rattle.type_core.specs.declared.shape.ModelType.{ModelType}
 
@@ -59,10 +59,12 @@ leads_of (Refinement u cs) = u ∷ []
 leads_of (Union ms) = ms
 leads_of _ = []
 
--- the types of a list's items or of a record's values
+-- the type of a list's items, of a record's values, or that a reference leads to
 abbrev pub parts_of : Shape → List TypeNo
 parts_of (Array u) = u ∷ []
 parts_of (Map u) = u ∷ []
+parts_of (Reference u) = u ∷ []
+parts_of (Safe u) = u ∷ []
 parts_of _ = []
 
 -- the model that a shape names is one of these

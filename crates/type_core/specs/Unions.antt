@@ -8,10 +8,11 @@ use Rattle.snap_core.specs.View.{view}
 use Rattle.snap_core.specs.declared.number.TypeNo.{TypeNo}
 use Rattle.snap_core.specs.declared.number.ModelNo.{ModelNo}
 use Rattle.type_core.specs.declared.shape.Shape.{Shape}
-use Rattle.type_core.specs.declared.shape.Shape.TheVariants.{Str, Integer, Boolean, Null, Literal, Enumeration, Frozen, Maybe, MaybeNull, Union, Refinement, Array, Map, Model}
+use Rattle.type_core.specs.declared.shape.Shape.TheVariants.{Str, Integer, Boolean, Null, Literal, Enumeration, Identifier, IdentifierNumber, Frozen, Maybe, MaybeNull, Union, Refinement, Array, Map, Model, Reference, Safe}
 use Rattle.type_core.specs.declared.shape.Property.{Property}
 use Rattle.type_core.specs.Table.{Table, shape_at, properties_of, names_of}
 use Rattle.type_core.specs.Names.{shape_by}
+use Rattle.type_core.specs.Identifiers.{is_key}
 
 -- equal scalars; a list or a record is no scalar
 abbrev pub is_same : Value → Value → Bool
@@ -46,6 +47,11 @@ takes table (Some (Refinement u cs)) v = is_based (shape_by table u.0) v
 takes table (Some Frozen) v = true
 takes table (Some (Maybe u)) null = true
 takes table (Some (MaybeNull u)) null = true
+takes table (Some Identifier) (text s) = true
+takes table (Some IdentifierNumber) (integer z) = true
+takes table (Some (Reference u)) v = is_key table u v
+takes table (Some (Safe u)) null = true
+takes table (Some (Safe u)) v = is_key table u v
 takes table _ v = false
 
 -- whether a shape is an array, or a map, and which model it is

@@ -1,15 +1,16 @@
 //! What optional types make where no value is given.
-ghost use Rattle.std.specs.Prelude.{◌≡◌, ◌<◌, length, replicate, All, Some, None, is_some, if◌then◌else◌, IfOk, MatchOption};
+ghost use Rattle.std.specs.Prelude.{◌≡◌, ℕ, ◌<◌, length, replicate, All, Some, None, is_some, if◌then◌else◌, IfOk, MatchOption};
 ghost use Rattle.std.specs.Bool.{OnTrue, OnFalse};
-ghost use Rattle.snap_core.specs.Value.{IsPlain};
+ghost use Rattle.snap_core.specs.Value.{Value, IsPlain};
 ghost use Rattle.snap_core.specs.View.{view};
 ghost use Rattle.type_core.specs.Table.{HoldsPlain, default_at};
 ghost use Rattle.type_core.specs.Makes as makes;
-ghost use Rattle.type_core.specs.Sound.{AreMade, AreAll, IsTried};
+ghost use Rattle.type_core.specs.Sound.{AreMade, AreAll, IsTried, IsOptional};
 ghost use Rattle.type_core.specs.Defaulting.{AreSoFar, IsNew, IsLightMade, MakesNoLight, unknown_count};
 
 use crate::limits::fits;
 use crate::making::{MakeError, make_value};
+use crate::needs::order_of_defaults;
 use crate::shape::Shape;
 use crate::tagged::Tagged;
 use list_core::Parts;
@@ -19,15 +20,19 @@ use std::alloc::{AllocError, Global};
 /// The greatest weight of a default once it is made.
 const MOST_WEIGHT: u32 = 65_536;
 
-/// What each optional type makes of its default, by the types' numbers. A default that needs others
-/// is made in a round after them; none is where a default isn't made.
+/// What each optional type makes of its default, by the types' numbers; none where a default isn't
+/// made. A default that needs others is made after them.
 pub fn defaults_of(alloc: Global, types: &Tagged) -> Result<Parts<Option<Snap>>, AllocError>
     requires plain { All HoldsPlain types.now.shapes }
     ensures made { IfOk result (λ defaults. AreMade types.now defaults) }
     ensures all { IfOk result (λ defaults. AreAll types.now defaults) }
+    ensures only { IfOk result (λ defaults. (t : ℕ) (s : Value) → default_at defaults t ≡ Some s → IsOptional types.now t) }
     ensures count { IfOk result (λ defaults. length defaults ≡ length types.now.shapes) }
 {
     let mut defaults = unknown(alloc, types.table().shapes.len())?;
+    for t in &order_of_defaults(alloc, types)? {
+        let _added = add_default(alloc, types, &mut defaults, *t)?;
+    }
     'rounds: while sweep(alloc, types, &mut defaults)? {}
     Ok(defaults)
 }

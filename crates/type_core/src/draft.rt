@@ -8,6 +8,7 @@ ghost use Rattle.pointer_core.specs.declared.schema_rule.SchemaRule.{SchemaRule 
 
 use crate::defaults::defaults_of;
 use crate::faults::{check_types, missing_default};
+use crate::order::{Order, order_of};
 use crate::rule::DraftError;
 use crate::shape::{ModelType, Properties, Shape};
 use crate::table::Table;
@@ -113,7 +114,9 @@ impl Draft {
         let Draft { shapes, models } = self;
         let alloc = models.allocator();
         let shapes = defined_shapes(alloc, shapes)?;
-        finished(alloc, Table { shapes, models }, root)
+        let order = order_of(alloc, shapes.as_slice())?;
+        let table = Table::new(alloc, shapes, models, order.left.as_slice())?;
+        finished(alloc, table, &order, root)
     }
 }
 
@@ -162,7 +165,7 @@ fn push_defined(defined: &mut Parts<Shape>, shape: Option<Shape>) -> Result<(), 
 }
 
 /// The types of a table without a fault, or its first fault.
-fn finished(alloc: Global, table: Table, root: ModelNo) -> Result<Types, DraftError>
+fn finished(alloc: Global, table: Table, order: &Order, root: ModelNo) -> Result<Types, DraftError>
     requires begun { IsBegun (plan_of table) }
     requires root { root.0 < length table.models }
     ensures table { IfOk result (λ types. types.table ≡ table) }
@@ -170,7 +173,7 @@ fn finished(alloc: Global, table: Table, root: ModelNo) -> Result<Types, DraftEr
     ensures sound { IfOk result IsSound }
     ensures wrong { IfWrong result (λ t rule. IsFirstFault table t.0 rule) }
 {
-    check_types(alloc, &table)?;
+    check_types(alloc, &table, order.components.as_slice())?;
     let tagged = Tagged::new(alloc, table)?;
     let defaults = defaults_of(alloc, &tagged)?;
     match missing_default(tagged.table(), defaults.as_slice()) {

@@ -1,11 +1,11 @@
 //! Which shape judges a value.
-ghost use Rattle.std.specs.Prelude.{◌≡◌, ℕ, Option};
+ghost use Rattle.std.specs.Prelude.{◌≡◌, ℕ, Option, None, if◌then◌else◌};
 ghost use Rattle.std.specs.Option.{option_copied};
 ghost use Rattle.snap_core.specs.Value.{IsPlain};
 ghost use Rattle.snap_core.specs.View.{view};
 ghost use Rattle.type_core.specs.declared.shape.Shape.{Shape as Judge};
-ghost use Rattle.type_core.specs.Table.{shape_at};
-ghost use Rattle.type_core.specs.Judging.{judged_by, judged_step};
+ghost use Rattle.type_core.specs.Identifiers.{is_firm};
+ghost use Rattle.type_core.specs.Judging.{judged_by, judged_step, shape_for};
 ghost use Rattle.type_core.specs.JudgingSteps.{judged_after};
 
 use crate::shape::Shape;
@@ -37,7 +37,7 @@ pub fn judged<'a>(types: &'a Tagged, given: &Snap, t: TypeNo) -> Option<&'a Shap
 fn next_step<'a>(types: &'a Tagged, given: &Snap, t: TypeNo) -> Step<'a>
     requires { IsPlain (view given.now) }
     ensures { (further : ℕ → Option Judge) → judged_after further result
-        ≡ judged_step types.now (view given.now) further (shape_at types.now t.0) }
+        ≡ judged_step types.now (view given.now) further (shape_for types.now (view given.now) t.0) }
 {
     let shape = types.table().shape(t);
     match shape {
@@ -50,6 +50,17 @@ fn next_step<'a>(types: &'a Tagged, given: &Snap, t: TypeNo) -> Step<'a>
             Some(member) => Step::On(member),
             None => Step::Ends(None),
         },
+        Some(Shape::Safe(_)) => match given {
+            Snap::Null => Step::Ends(if_cleared(types, t, shape)),
+            _ => Step::Ends(shape),
+        },
         _ => Step::Ends(shape),
     }
+}
+
+/// The shape of a safe reference, where it takes null.
+fn if_cleared<'a>(types: &Tagged, t: TypeNo, shape: Option<&'a Shape>) -> Option<&'a Shape>
+    ensures { option_copied result ≡ (if is_firm types.now t.0 then None else option_copied shape.entry) }
+{
+    if types.is_firm(t) { None } else { shape }
 }

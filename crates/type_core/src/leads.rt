@@ -1,9 +1,10 @@
 //! Types that lead back to themselves.
-ghost use Rattle.std.specs.Prelude.{◌≡◌, ◌<◌, [], ◌∷◌, length, vec_len, All, Contains, IsTrue, ◌↔◌, IfOk, OnOk};
+ghost use Rattle.std.specs.Prelude.{◌≡◌, ◌<◌, ◌≤◌, [], ◌∷◌, length, slice_index, vec_len, All, Contains, IsTrue, ◌↔◌, IfOk, OnOk};
 ghost use Rattle.snap_core.specs.declared.number.TypeNo.{TypeNo as Number};
 ghost use Rattle.type_core.specs.Table.{leads_of};
 ghost use Rattle.type_core.specs.Names.{LeadsTo};
 ghost use Rattle.type_core.specs.Reaching.{leads_at, AreKnown, AreReached, HasReached};
+ghost use Rattle.type_core.specs.Levels.{AreLevels, IsAbove, IsLevel};
 
 use crate::shape::Shape;
 use crate::table::Table;
@@ -35,8 +36,78 @@ fn leads_at(table: &Table, t: TypeNo) -> &[TypeNo]
     }
 }
 
-/// Whether a type leads back to itself.
-pub fn leads_back(alloc: Global, table: &Table, t: TypeNo) -> Result<bool, AllocError>
+/// Levels of the types, which never rise along a lead: these numbers, if they never do, and otherwise
+/// the same level for all.
+pub fn levels_of<'a>(table: &Table, numbers: &'a [usize]) -> &'a [usize]
+    ensures { AreLevels table.now result.now }
+{
+    if are_levels(table, numbers) {
+        numbers
+    } else {
+        &[]
+    }
+}
+
+fn are_levels(table: &Table, numbers: &[usize]) -> bool
+    ensures { IsTrue result → AreLevels table.now numbers.now }
+{
+    for t in 0..table.shapes.len() {
+        if !is_level(table, numbers, TypeNo(t)) {
+            return false;
+        }
+    }
+    true
+}
+
+/// Whether a type leads to none of a higher level.
+fn is_level(table: &Table, levels: &[usize], t: TypeNo) -> bool
+    ensures { IsTrue result ↔ IsLevel table.now levels.now t.0 }
+{
+    let level = level_at(levels, t);
+    leads_at(table, t)
+        .iter()
+        .all(|u| level_at(levels, *u) <= level)
+}
+
+fn level_at(levels: &[usize], t: TypeNo) -> usize
+    ensures { result ≡ slice_index levels.now t.0 }
+{
+    match levels.get(t.0) {
+        Some(level) => *level,
+        None => 0,
+    }
+}
+
+/// Whether a type leads to types of lower levels alone.
+fn is_above(table: &Table, levels: &[usize], t: TypeNo) -> bool
+    ensures { IsTrue result ↔ IsAbove table.now levels.now t.0 }
+{
+    let level = level_at(levels, t);
+    leads_at(table, t)
+        .iter()
+        .all(|u| level_at(levels, *u) < level)
+}
+
+/// Whether a type leads back to itself. One that leads to lower levels alone doesn't.
+pub fn leads_back(
+    alloc: Global,
+    table: &Table,
+    levels: &[usize],
+    t: TypeNo,
+) -> Result<bool, AllocError>
+    requires known { AreKnown table.now }
+    requires levels { AreLevels table.now levels.now }
+    requires within { t.0 < length table.now.shapes }
+    ensures { IfOk result (λ back. IsTrue back ↔ LeadsTo table.now t.0 t.0) }
+{
+    if is_above(table, levels, t) {
+        return Ok(false);
+    }
+    reaches_itself(alloc, table, t)
+}
+
+/// Whether a type is among those that are reached from it.
+fn reaches_itself(alloc: Global, table: &Table, t: TypeNo) -> Result<bool, AllocError>
     requires known { AreKnown table.now }
     requires within { t.0 < length table.now.shapes }
     ensures { IfOk result (λ back. IsTrue back ↔ LeadsTo table.now t.0 t.0) }

@@ -49,8 +49,9 @@ impl From<AllocError> for MakeError {
 /// What the type `t` makes of a value, or of none.
 ///
 /// Refused by the first rule that isn't met, in document order: `type` where a type doesn't take a
-/// value, `refine` where a condition isn't met. What is made and is heavier than 1,048,576 or deeper
-/// than 64 is refused after all others, as `large`.
+/// value, `refine` where a condition isn't met, `key` where a map's value is of a model with an
+/// identifier and stands under another key, once that value is made. What is made and is heavier than
+/// 1,048,576 or deeper than 64 is refused after all others, as `large`.
 pub fn make(
     alloc: Global,
     types: &Types,

@@ -1,12 +1,16 @@
 //! Making the parts of lists and records.
-ghost use Rattle.std.specs.Prelude.{◌≡◌, [], ◌∷◌, ◌++◌, OnOk, decimal};
-ghost use Rattle.snap_core.specs.Value.{Value, ArePlain, ArePlainMembers};
+ghost use Rattle.std.specs.Prelude.{◌≡◌, [], ◌∷◌, ◌++◌, Ok, OnOk, decimal, if◌then◌else◌};
+ghost use Rattle.snap_core.specs.Value.{Value, null, IsPlain, ArePlain, ArePlainMembers};
 ghost use Rattle.snap_core.specs.View.{view, items_view, fields_view};
 ghost use Rattle.type_core.specs.Table.{default_at};
+ghost use Rattle.type_core.specs.Identifiers.{is_firm, ident_in};
+ghost use Rattle.type_core.specs.Judging.{judged_by};
 ghost use Rattle.type_core.specs.Making as specs;
 ghost use Rattle.type_core.specs.Making.{Outcome};
 ghost use Rattle.type_core.specs.Made.{Answers};
 
+use crate::identifiers::{is_keyed, own_identifier};
+use crate::judging::judged;
 use crate::making::{MakeError, make_value, refused};
 use crate::shape::{Property, Shape};
 use crate::tagged::Tagged;
@@ -28,10 +32,21 @@ pub fn make_absent(
     match types.table().shape(t) {
         Some(Shape::Optional(_, _)) => copy_default(alloc, defaults, t),
         Some(Shape::Maybe(_) | Shape::MaybeNull(_) | Shape::Frozen) => Ok(Snap::Null),
+        Some(Shape::Safe(_)) => clear(alloc, types, t),
         Some(Shape::Array(_)) => Ok(Snap::List(Parts::new(alloc))),
         Some(Shape::Map(_)) => Ok(Snap::Dict(Parts::new(alloc))),
         _ => Err(refused(alloc, Rule::Mistyped)),
     }
+}
+
+/// null, where the safe reference `t` is a property's type.
+fn clear(alloc: Global, types: &Tagged, t: TypeNo) -> Result<Snap, MakeError>
+    ensures { Answers view result (if is_firm types.now t.0 then specs.mistyped else Ok null) }
+{
+    if types.is_firm(t) {
+        return Err(refused(alloc, Rule::Mistyped));
+    }
+    Ok(Snap::Null)
 }
 
 fn copy_default(alloc: Global, defaults: &[Option<Snap>], t: TypeNo) -> Result<Snap, MakeError>
@@ -81,8 +96,31 @@ pub fn make_entries(
     let mut made = Parts::new(alloc);
     for field in fields {
         let value = make_value(alloc, types, defaults, of, &field.value);
+        let value = keyed(alloc, types, of, field, value);
         let value = under(field.key.text(), value)?;
         push_entry(alloc, &mut made, field.key.text(), value)?;
+    }
+    Ok(made)
+}
+
+/// What making the value of a map's field came to, once the key is compared with the value's
+/// identifier.
+fn keyed(
+    alloc: Global,
+    types: &Tagged,
+    of: TypeNo,
+    field: &Field,
+    made: Result<Snap, MakeError>,
+) -> Result<Snap, MakeError>
+    requires plain { IsPlain (view field.now.value) }
+    ensures { let v = view field.now.value in (outcome : Outcome Value) → Answers view made outcome
+        → Answers view result (specs.keyed field.now.key (ident_in types.now (judged_by types.now v of.0) v) outcome) }
+{
+    let made = made?;
+    let shape = judged(types, &field.value, of);
+    let identifier = own_identifier(types.table(), shape, &field.value);
+    if !is_keyed(alloc, field.key.text(), identifier)? {
+        return Err(refused(alloc, Rule::Key));
     }
     Ok(made)
 }

@@ -6,6 +6,7 @@ ghost use Rattle.std.specs.Str.{bytes_eq};
 ghost use Rattle.snap_core.specs.View.{view};
 ghost use Rattle.type_core.specs.Unions as unions;
 
+use crate::identifiers::is_key;
 use crate::shape::{Shape, Texts};
 use crate::table::Table;
 use snap_core::Snap;
@@ -35,6 +36,10 @@ pub fn takes(table: &Table, shape: Option<&Shape>, given: &Snap) -> bool
         (Some(Shape::Literal(literal)), _) => is_same(literal, given),
         (Some(Shape::Enumeration(texts)), Snap::Text(text)) => has_text(texts, text.text()),
         (Some(Shape::Refinement(base, _)), _) => is_based(table.named_shape(*base), given),
+        (Some(Shape::Identifier), Snap::Text(_)) => true,
+        (Some(Shape::IdentifierNumber), Snap::Int(_)) => true,
+        (Some(Shape::Safe(_)), Snap::Null) => true,
+        (Some(Shape::Reference(u) | Shape::Safe(u)), _) => is_key(table, *u, given),
         (Some(Shape::Frozen), _) => true,
         _ => false,
     }

@@ -15,6 +15,10 @@ pub enum Shape {
     Literal(Snap),
     /// These texts alone.
     Enumeration(Texts),
+    /// Texts that tell the models of one kind in a tree apart.
+    Identifier,
+    /// Whole numbers that tell the models of one kind in a tree apart.
+    IdentifierNumber,
     /// Any value, kept as it is; null where none is given.
     Frozen,
     /// What the type takes; where no value is given, what the type makes of the default.
@@ -34,6 +38,10 @@ pub enum Shape {
     Map(TypeNo),
     /// Records with the properties of a model.
     Model(ModelNo),
+    /// The identifier of a model of the type.
+    Reference(TypeNo),
+    /// The identifier of a model of the type, or null where the type is a property's type.
+    Safe(TypeNo),
     /// A name that stands for the type.
     Named(TypeNo),
 }

@@ -2,8 +2,11 @@
 ghost use Rattle.std.specs.Prelude.{◌≡◌, map, IfOk};
 ghost use Rattle.std.specs.Option.{option_copied};
 ghost use Rattle.type_core.specs.Table.{shape_at};
+ghost use Rattle.type_core.specs.Identifiers.{is_firm};
 ghost use Rattle.type_core.specs.Unions.{tag_in};
 
+use crate::shape::Shape;
+use crate::standing::mark_properties;
 use crate::table::Table;
 use crate::tags::tag_in;
 use list_core::Parts;
@@ -11,15 +14,19 @@ use snap_core::{Txt, TypeNo};
 use std::alloc::{AllocError, Global};
 use std::marker::Model;
 
-/// Types, and for each union the tag that tells its models apart. Contracts see the types alone.
+/// Types, for each union the tag that tells its models apart, and which types are properties' own.
+/// Contracts see the types alone.
 #[derive(Debug, Drop)]
 pub struct Tagged {
     table: Table,
     tags: Parts<Option<Txt>>,
+    of_property: Parts<bool>,
 }
 
 impl Model for Tagged {
-    ghost use Rattle.std.specs.Prelude.{◌≡◌, Some, map};
+    ghost use Rattle.std.specs.Prelude.{◌≡◌, Some, map, length};
+    ghost use Rattle.type_core.specs.Identifiers.{property_types};
+    ghost use Rattle.type_core.specs.Marks.{AreMarks};
     ghost use Rattle.type_core.specs.Table as specs;
     ghost use Rattle.type_core.specs.Unions.{tag_in};
     ghost use Rattle.std.specs.Coded.{codes};
@@ -31,7 +38,9 @@ impl Model for Tagged {
 
     ghost view = { λ t. t.table };
 
-    ghost invariant = { λ t. t.tags ≡ map (λ shape. tag_in t.table (Some shape)) t.table.shapes };
+    ghost invariant = { λ t. (t.tags ≡ map (λ shape. tag_in t.table (Some shape)) t.table.shapes)
+        × AreMarks t.of_property (property_types t.table.models)
+        × (length t.of_property ≡ length t.table.shapes) };
 }
 
 impl Tagged {
@@ -43,7 +52,22 @@ impl Tagged {
         for shape in table.shapes.as_slice() {
             tags.push(tag_in(alloc, &table, shape)?)?;
         }
-        Ok(Tagged { table, tags })
+        let of_property = mark_properties(alloc, &table)?;
+        Ok(Tagged {
+            table,
+            tags,
+            of_property,
+        })
+    }
+
+    /// Whether a type is a safe reference that null doesn't clear, as it is no property's type.
+    pub fn is_firm(&self, t: TypeNo) -> bool
+        ensures { result ≡ is_firm self.now t.0 }
+    {
+        match (self.table.shape(t), self.of_property.get(t.0)) {
+            (Some(Shape::Safe(_)), Some(of_property)) => !*of_property,
+            _ => false,
+        }
     }
 
     pub fn table(&self) -> &Table

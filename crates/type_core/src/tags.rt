@@ -1,15 +1,18 @@
 //! The tag by which a union's models are told apart.
-ghost use Rattle.std.specs.Prelude.{◌≡◌, [], ◌∷◌, ◌++◌, ◌&&◌, IfOk, OnOk, option_map};
-ghost use Rattle.std.specs.List.{list_any, find};
+ghost use Rattle.std.specs.Prelude.{◌≡◌, [], ◌++◌, List, Option, Some, IfOk, OnOk, option_map};
+ghost use Rattle.std.specs.List.{find};
 ghost use Rattle.std.specs.Option.{option_copied};
+ghost use Rattle.snap_core.specs.Value.{Value};
 ghost use Rattle.snap_core.specs.View.{view};
 ghost use Rattle.type_core.specs.Table.{names_of};
 ghost use Rattle.type_core.specs.Names.{shape_by};
 ghost use Rattle.type_core.specs.Unions as unions;
+ghost use Rattle.type_core.specs.Literals.{AreLiterals, AddsLiteral};
 
+use crate::scalar_set::ScalarSet;
 use crate::shape::{Property, Shape};
 use crate::table::Table;
-use crate::unions::{is_literal, model_of};
+use crate::unions::model_of;
 use list_core::Parts;
 use snap_core::{ModelNo, Snap, Txt, TypeNo};
 use std::alloc::{AllocError, Global};
@@ -45,7 +48,7 @@ fn tag_of(alloc: Global, table: &Table, members: &[TypeNo]) -> Result<Option<Txt
     ensures { IfOk result (λ tag. tag ≡ unions.tag_of table.now (unions.models_of table.now members.now)) }
 {
     let models = models_of(alloc, table, members)?;
-    match tag_among(table, models.as_slice()) {
+    match tag_among(alloc, table, models.as_slice())? {
         Some(tag) => Ok(Some(Txt::copy(alloc, tag)?)),
         None => Ok(None),
     }
@@ -80,63 +83,78 @@ fn push_model(
 }
 
 /// The first name by bytes that tells two or more models apart.
-pub fn tag_among<'a>(table: &'a Table, models: &[(TypeNo, ModelNo)]) -> Option<&'a str>
-    ensures { option_map (λ tag. tag.now) result ≡ unions.tag_of table.now models.now }
+pub fn tag_among<'a>(
+    alloc: Global,
+    table: &'a Table,
+    models: &[(TypeNo, ModelNo)],
+) -> Result<Option<&'a str>, AllocError>
+    ensures { IfOk result (λ tag. option_map (λ name. name.now) tag ≡ unions.tag_of table.now models.now) }
 {
     if models.len() < 2 {
-        return None;
+        return Ok(None);
     }
-    first_apart(table, models, table.properties(models[0].1))
+    first_apart(alloc, table, models, table.properties(models[0].1))
 }
 
 /// The first of the properties' names that tells the models apart.
 fn first_apart<'a>(
+    alloc: Global,
     table: &Table,
     models: &[(TypeNo, ModelNo)],
     properties: &'a [Property],
-) -> Option<&'a str>
-    ensures { option_map (λ tag. tag.now) result
-        ≡ find (unions.tells_apart table.now models.now) (names_of properties.now) }
+) -> Result<Option<&'a str>, AllocError>
+    ensures { IfOk result (λ tag. option_map (λ name. name.now) tag
+        ≡ find (unions.tells_apart table.now models.now) (names_of properties.now)) }
 {
     for property in properties {
-        if tells_apart(table, models, property.name.text()) {
-            return Some(property.name.text());
+        if tells_apart(alloc, table, models, property.name.text())? {
+            return Ok(Some(property.name.text()));
         }
     }
-    None
+    Ok(None)
 }
 
 /// Whether each of the models has a literal property of this name, and the literals differ.
-fn tells_apart(table: &Table, models: &[(TypeNo, ModelNo)], name: &str) -> bool
-    ensures { result ≡ unions.tells_apart table.now models.now name.now }
+fn tells_apart(
+    alloc: Global,
+    table: &Table,
+    models: &[(TypeNo, ModelNo)],
+    name: &str,
+) -> Result<bool, AllocError>
+    ensures { IfOk result (λ apart. apart ≡ unions.tells_apart table.now models.now name.now) }
 {
+    let mut literals = ScalarSet::new(alloc);
     let mut rest = models;
-    while let Some((m, others)) = rest.split_first() {
-        if !stands_out(table, *m, others, name) {
-            return false;
+    while let Some((m, before)) = rest.split_last() {
+        if !add_literal(&mut literals, literal_at(table, name, m.1))? {
+            return Ok(false);
         }
-        rest = others;
+        rest = before;
     }
-    true
+    Ok(true)
 }
 
-/// Whether a model has a literal property of this name, and none of the others has the same.
-fn stands_out(table: &Table, m: (TypeNo, ModelNo), others: &[(TypeNo, ModelNo)], name: &str) -> bool
-    ensures { unions.tells_apart table.now (m ∷ others.now) name.now
-        ≡ (result && unions.tells_apart table.now others.now name.now) }
+/// Adds a literal, if there is one and it isn't there yet; whether it was added.
+fn add_literal<'a>(
+    literals: &mut ScalarSet<'a>,
+    literal: Option<&'a Snap>,
+) -> Result<bool, AllocError>
+    ensures { IfOk result (λ added. (others : List (Option Value)) → AreLiterals literals.old others
+        → AddsLiteral added literals.new (option_map view (option_copied literal.entry)) others) }
 {
-    match literal_at(table, name, m.1) {
-        Some(literal) => !has_literal(table, others, name, literal),
-        None => false,
+    match literal {
+        Some(literal) => add_unless_there(literals, literal),
+        None => Ok(false),
     }
 }
 
-/// Whether one of the models has this literal under the name.
-fn has_literal(table: &Table, models: &[(TypeNo, ModelNo)], name: &str, literal: &Snap) -> bool
-    ensures { result ≡ list_any
-        (λ m. unions.is_literal (view literal.now) (unions.literal_at table.now name.now m.1)) models.now }
+fn add_unless_there<'a>(literals: &mut ScalarSet<'a>, literal: &'a Snap) -> Result<bool, AllocError>
+    ensures { IfOk result (λ added. (others : List (Option Value)) → AreLiterals literals.old others
+        → AddsLiteral added literals.new (Some (view literal.now)) others) }
 {
-    models
-        .iter()
-        .any(|m| is_literal(literal_at(table, name, m.1), literal))
+    if literals.has(literal) {
+        return Ok(false);
+    }
+    literals.insert(literal)?;
+    Ok(true)
 }

@@ -1,11 +1,15 @@
 //! The finished types of a schema.
-ghost use Rattle.std.specs.Prelude.{◌≡◌, ◌<◌, length, Some, IfSome, option_map, slice_get};
+ghost use Rattle.std.specs.Prelude.{◌≡◌, ◌<◌, false, length, Some, IfSome, IfNone, IsSome, option_map, slice_get};
+ghost use Rattle.std.specs.Option.{option_copied};
 ghost use Rattle.snap_core.specs.Value.{IsPlain};
 ghost use Rattle.snap_core.specs.View.{view};
 ghost use Rattle.type_core.specs.Table.{AreNamed, AreTyped, IsShapeOf, plan_of, shape_at, properties_of};
 ghost use Rattle.type_core.specs.Sound.{IsSound};
+ghost use Rattle.type_core.specs.Identifiers.{identifier_of, is_reference};
+ghost use Rattle.type_core.specs.Targets.{target_of};
 ghost use Rattle.type_core.specs.Unions as unions;
 
+use crate::identifiers::{identifier_of, target_of};
 use crate::shape::{ModelType, Properties, Shape};
 use crate::tagged::Tagged;
 use crate::unions::chosen_at;
@@ -73,6 +77,28 @@ impl Types {
         ensures typed { AreTyped (length self.now.table.shapes) result.now }
     {
         &self.model(m).properties
+    }
+
+    /// The property that is a model's identifier; none exactly where the model has none.
+    pub fn identifier(&self, m: ModelNo) -> Option<&Name>
+        requires { m.0 < length self.now.table.models }
+        ensures { option_copied result ≡ option_map (λ p. p.name) (identifier_of self.now.table m.0) }
+    {
+        let property = identifier_of(self.tagged.table(), m)?;
+        Some(&property.name)
+    }
+
+    /// The model that a reference leads to, which has an identifier; none exactly where the type is no
+    /// reference.
+    pub fn target(&self, t: TypeNo) -> Option<ModelNo>
+        requires { t.0 < length self.now.table.shapes }
+        ensures target { result ≡ target_of self.now.table (shape_at self.now.table t.0) }
+        ensures known { IfSome result (λ m. m.0 < length self.now.table.models) }
+        ensures identified { IfSome result (λ m. IsSome (identifier_of self.now.table m.0)) }
+        ensures none { IfNone result (is_reference (shape_at self.now.table t.0) ≡ false) }
+    {
+        let (tagged, _) = self.inside();
+        target_of(tagged.table(), t)
     }
 
     /// The model's own type. Other types may have the same shape.

@@ -3,7 +3,9 @@ use Rattle.std.proofs.lemmas.Option.{slice_get-get_or}
 use Rattle.snap_core.specs.declared.snap.Snap.{the_lemmas}
 use Rattle.snap_core.specs.Value.{IsPlain}
 use Rattle.snap_core.specs.View.{view, fields_view}
-use Rattle.type_core.specs.Making.{absent, maker_of, fields_of, field_at, property_made}
+use Rattle.type_core.specs.Identifiers.{ident_in}
+use Rattle.type_core.specs.Judging.{judged_by}
+use Rattle.type_core.specs.Making.{absent, keyed, maker_of, fields_of, field_at, property_made}
 use Rattle.type_core.proofs.Steps.{plain_value, plain_item, property_made-present, property_made-absent}
 use Rattle.snap_core.proofs.Keys.{AreKeyed-ascending}
 use Rattle.type_core.proofs.Items.{item-handed_on, item-more, items-all}
@@ -44,11 +46,18 @@ pub records::make_entries-make_value-value-requires : goal.records::make_entries
 records::make_entries-make_value-value-requires t c =
     (search (rules, the_lemmas), subst (λ field. IsPlain (view field.value)) (sym c.field-item.is) (plain_value c.args.fields.now c.loop-field.field-index c.field-item.result c.requires.plain c.loop-field-test.true))
 
+pub records::make_entries-keyed-value-requires : goal.records::make_entries-keyed-value-requires
+records::make_entries-keyed-value-requires t c =
+    record { plain = subst (λ field. IsPlain (view field.value)) (sym c.field-item.is) (plain_value c.args.fields.now c.loop-field.field-index c.field-item.result c.requires.plain c.loop-field-test.true) }
+
 pub records::make_entries-returns-in_err-value : goal.records::make_entries-returns-in_err-value
 records::make_entries-returns-in_err-value t c =
     let l = c.loop-field in
     let f = c.field-item.result in
-    let h = c.under.ensures (maker_of c.args.types.now c.args.defaults.now (view f.value) c.args.of.0) c.make_value-value.ensures.made in
+    let table = c.args.types.now in
+    let made = maker_of table c.args.defaults.now (view f.value) c.args.of.0 in
+    let own = ident_in table (judged_by table (view f.value) c.args.of.0) (view f.value) in
+    let h = c.under.ensures (keyed f.key own made) (c.keyed-value.ensures made c.make_value-value.ensures.made) in
     let was = c.in_err-value.was in
     let token = c.text.ensures in
     value-handed_on c.args.types.now c.args.defaults.now c.args.of.0 c.args.fields.now l.field-index l.made l.invariant c.field-item.result c.loop-field-test.true c.field-item.is
@@ -58,7 +67,10 @@ pub records::make_entries-loop-field-preserved : goal.records::make_entries-loop
 records::make_entries-loop-field-preserved t c =
     let l = c.loop-field in
     let f = c.field-item.result in
-    let h = c.under.ensures (maker_of c.args.types.now c.args.defaults.now (view f.value) c.args.of.0) c.make_value-value.ensures.made in
+    let table = c.args.types.now in
+    let made = maker_of table c.args.defaults.now (view f.value) c.args.of.0 in
+    let own = ident_in table (judged_by table (view f.value) c.args.of.0) (view f.value) in
+    let h = c.under.ensures (keyed f.key own made) (c.keyed-value.ensures made c.make_value-value.ensures.made) in
     let was = c.in_ok-value.was in
     let token = c.text.ensures in
     rw c.in_ok-push_entry.ensures

@@ -6,3 +6,6 @@ invariant-rounds l = AreSoFar l.types l.defaults
 
 abbrev pub decreases-rounds : goal.decreases-rounds
 decreases-rounds l = unknown_count l.defaults
+
+abbrev pub invariant-loop-t : goal.invariant-loop-t
+invariant-loop-t l = AreSoFar l.types l.defaults

@@ -1,5 +1,6 @@
-use Rattle.std.proofs.Common.{List, sym, ap, ◌∙◌}
+use Rattle.std.proofs.Common.{◌≡◌, ℕ, List, Option, IfOk, Bor, sym, ap, ◌∙◌, subst}
 use Rattle.std.specs.List.{find}
+use Rattle.std.specs.Option.{option_map}
 use Rattle.type_core.specs.declared.shape.Property.{Property}
 use Rattle.type_core.specs.Table.{names_of}
 use Rattle.type_core.specs.Unions as unions
@@ -10,5 +11,7 @@ pub returns : goal.returns
 returns c =
     let table = c.args.table.now in
     let models = c.args.models.now in
-    c.first_apart.ensures ∙ ap (λ (ps : List Property). find (unions.tells_apart table models) (names_of ps)) c.properties.ensures
-    ∙ sym (tag_of-several table models (record { 0 = 0 }, record { 0 = 0 }) c.if-models-lt2.false)
+    let same = ap (λ (ps : List Property). find (unions.tells_apart table models) (names_of ps)) c.properties.ensures
+    ∙ sym (tag_of-several table models (record { 0 = 0 }, record { 0 = 0 }) c.if-models-lt2.false) in
+    let P : Option (List ℕ) → Type 0 = λ name. IfOk c.first_apart.result (λ (tag : Option (Bor (List ℕ))). option_map (λ (t : Bor (List ℕ)). t.now) tag ≡ name) in
+    subst P same c.first_apart.ensures

@@ -1,0 +1,10 @@
+pub mod Completes
+pub mod Ends
+pub mod Exits
+pub mod Grammar
+pub mod Links
+pub mod Runs
+pub mod Says
+pub mod StatusLaws
+pub mod Statuses
+pub mod Told

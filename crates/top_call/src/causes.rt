@@ -1,0 +1,64 @@
+//! What each exit status tells of a run: laws that follow from how a run ends.
+ghost use Rattle.std.specs.Prelude.{◌≡◌, ◌⊎◌, ℕ, List, None, IsTrue, codes};
+ghost use Rattle.snap_json.specs.Reading.{reading};
+ghost use Rattle.type_core.specs.Table.{Catalog};
+ghost use Rattle.edge_core.specs.World.{WorldHasFailed, Gets};
+ghost use Rattle.edge_core.specs.Door.{DoorHasFailed};
+ghost use Rattle.top_call.specs.declared.exit.Exit as declared;
+ghost use Rattle.top_call.specs.Link.{reading_reply};
+ghost use Rattle.top_call.specs.Report.{Tells};
+ghost use Rattle.top_call.specs.Run.{Run, Ends, IsRun, IsCheck, IfSchemaFile, IsTooLong, IsSchemaFile, IsAnswered, IsBroken, IsOutOfMemory, Refuses, SchemaIsGiven, RequestIsGiven, IsReplied};
+
+/// The cause of each status, and what is told.
+pub fn statuses_have_causes()
+    // 2 only where the words are no command, and such words come to nothing else, unless it can't be told.
+    ensures usage { (r : Run) (status : ℕ) → Ends r status → status ≡ 2 → r.command ≡ None }
+    ensures no_command { (r : Run) (status : ℕ) → Ends r status
+        → r.command ≡ None → (status ≡ 2) ⊎ (status ≡ 10) }
+    // 3 only where the world counted a fault, or the file is too long.
+    ensures unread { (r : Run) (status : ℕ) → Ends r status
+        → status ≡ 3 → WorldHasFailed r.world_before r.world_after ⊎ IfSchemaFile r IsTooLong }
+    // 4 only where the file is short enough, and is no JSON or has a first fault; the message says which.
+    ensures refused { (r : Run) (status : ℕ) → Ends r status → status ≡ 4 → Refuses r }
+    // 0 of a check only where the file is a schema, and then `ok` is written, alone.
+    ensures checked { (r : Run) (status : ℕ) → Ends r status → IsCheck r.command
+        → status ≡ 0 → IfSchemaFile r IsSchemaFile }
+    ensures ok { (r : Run) (status : ℕ) → Ends r status → IsCheck r.command → status ≡ 0
+        → (r.world_after.err ≡ r.world_before.err)
+        × Gets (codes "ok\n") r.world_before.out r.world_after.out }
+    // 0 and 9 of a run exactly as the bytes that came say; what is written is the answer to them.
+    ensures done { (r : Run) (status : ℕ) → Ends r status → IsRun r.command
+        → status ≡ 0 → IsAnswered r 0 }
+    ensures inside { (r : Run) (status : ℕ) → Ends r status → status ≡ 9 → IsAnswered r 9 }
+    ensures attached { (r : Run) (status : ℕ) → Ends r status → IsRun r.command
+        → (status ≡ 0) ⊎ (status ≡ 9) → IsTrue r.door_after.is_attached }
+    ensures silent { (r : Run) (status : ℕ) → Ends r status → IsRun r.command → status ≡ 0
+        → (r.world_after.err ≡ r.world_before.err) × (r.world_after.out ≡ r.world_before.out) }
+    // 6 only where the door's count rose; what was written was the beginning of an answer.
+    ensures door_failed { (r : Run) (status : ℕ) → Ends r status
+        → status ≡ 6 → DoorHasFailed r.door_before r.door_after × IsBroken r }
+    // 7 is free: the door is as it was, or a link that was due a reply gets the fixed one.
+    ensures memory { (r : Run) (status : ℕ) → Ends r status
+        → status ≡ 7 → (r.door_after ≡ r.door_before) ⊎ IsOutOfMemory r }
+    // 10 only where the world counted a fault; every other status is told whole.
+    ensures unwritten { (r : Run) (status : ℕ) → Ends r status
+        → status ≡ 10 → WorldHasFailed r.world_before r.world_after }
+    ensures told { (r : Run) (status : ℕ) → Ends r status → ¬ (status ≡ 10)
+        → (exit : declared.Exit)
+        × Tells (record { command = r.command; exit = exit; status = status }) r.world_before r.world_after }
+{
+}
+
+/// What comes of a run in which the outside fails nowhere.
+pub fn answers_what_is_given()
+    // A check of a schema: 0, or memory ran out.
+    ensures checks { (r : Run) (status : ℕ) → Ends r status → SchemaIsGiven r
+        → ¬ (WorldHasFailed r.world_before r.world_after) → (status ≡ 7) ⊎ (status ≡ 0) }
+    // A run by a schema, with one whole request: it gets its reply, or memory ran out.
+    ensures complete { (r : Run) (status : ℕ) → Ends r status
+        → (types : Catalog) (body : List ℕ) → RequestIsGiven r types body
+        → ¬ (WorldHasFailed r.world_before r.world_after)
+        → ¬ (DoorHasFailed r.door_before r.door_after)
+        → (status ≡ 7) ⊎ ((status ≡ 0) × IsReplied r (reading_reply types (reading body))) }
+{
+}

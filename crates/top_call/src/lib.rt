@@ -1,0 +1,28 @@
+//! The whole program as one call: words, a world and a door in, an exit status out.
+//!
+//! ```
+//! let mut world = RealWorld::new(rt.alloc(), rt, rt.stdout(), rt.stderr());
+//! let mut door = RealDoor::new(rt, rt.stdin(), rt.stdout());
+//! let status = host(rt.alloc(), words.as_slice(), &mut world, &mut door);
+//! ```
+//!
+//! Each status has its cause, which the laws of `causes` state one by one, and each byte that is
+//! written is the one that is due. No file is read but the schema file, and nothing is attached but
+//! the standard streams.
+#![tactic(auto)]
+
+mod answer;
+mod causes;
+mod exit;
+mod link;
+mod load;
+mod program;
+mod report;
+mod serve;
+mod words;
+
+pub use causes::{answers_what_is_given, statuses_have_causes};
+pub use exit::Exit;
+pub use program::host;
+pub use report::report_exit;
+pub use words::Command;
