@@ -9,12 +9,12 @@ use Rattle.edit_core.specs.declared.kind.Kind.TheVariants.{Model, Array, Map}
 use Rattle.edit_core.specs.Labelled.{Label, Labelled, Entry, Branches, Entries, leaf, many, keyed, no_branches, branch, no_entries, entry, items_in, entries_in, bare, bare_items, bare_fields}
 use Rattle.edit_core.specs.Comparing.{is_equal, same_kind}
 use Rattle.edit_core.specs.Typing.{Typing, Rules, label_of, seen, stays_as}
-use Rattle.edit_core.specs.Matching.{Slot, is_open, taken, all_taken, open_slot, pairwise, matched, first_matching, by_first, same_item}
-use Rattle.edit_core.specs.Template.{NewLabel, Template, kept, standing, label_for, items_under, entries_under, entry_at, first_in, rest_of, values_in, unless_equal, array_template, record_template, template, item_templates, field_templates, drawn, draws, new_count, numbered, numbered_items, numbered_entries}
+use Rattle.edit_core.specs.Matching.{Slot, is_open, taken, all_taken, open_slot, pairwise, matched, by_first, same_item}
+use Rattle.edit_core.specs.Template.{NewLabel, Template, kept, standing, label_for, items_under, entries_under, entry_at, values_in, unless_equal, array_template, record_template, template, item_templates, field_templates, drawn, draws, new_count, numbered, numbered_items, numbered_entries}
 use Rattle.edit_core.specs.Reconciling.{Setting, reconciled}
 use Rattle.edit_core.specs.Labelling.{SuitsKind, IsSuited, IfArray, IfRecord, IsLabelledBy, AreLabelledBy, HoldLabelledBy}
-use Rattle.edit_core.proofs.Equal.{equal-is, and-left, kind-is}
-use Rattle.edit_core.proofs.Bare.{bare-template, bare-numbered, bare-items, bare-fields, bare-numbered_items, bare-numbered_entries}
+use Rattle.edit_core.proofs.Equal.{and-left, kind-is}
+use Rattle.edit_core.proofs.Bare.{bare-items, bare-fields, bare-numbered_items, bare-numbered_entries}
 use Rattle.edit_core.proofs.Unchanged.{numbered-kept}
 
 -- each old part that there is, is labelled as a type says

@@ -21,5 +21,7 @@ pub mod Unchanged
 pub mod Labelling
 pub mod RuleLinks
 pub mod RuleMatching
+pub mod OldItems
 pub mod RuleItems
 pub mod RuleFields
+pub mod ByRules

@@ -1,5 +1,5 @@
 -- The edits of a model or a map are, without labels, the patches of the rule of records.
-use Rattle.std.proofs.Common.{◌≡◌, ℕ, ◌+◌, ◌≤◌, List, [], ◌∷◌, ◌++◌, map, Bool, true, false, ◌||◌, Option, Some, None, refl, sym, ◌∙◌, ap, subst, arith}
+use Rattle.std.proofs.Common.{◌≡◌, ℕ, ◌+◌, ◌≤◌, List, [], ◌∷◌, ◌++◌, map, true, false, Option, Some, None, refl, sym, ◌∙◌, ap, subst, arith}
 use Rattle.std.specs.Prelude.{if◌then◌else◌}
 use Rattle.std.specs.List.{list_any}
 use Rattle.std.specs.Option.{option_map}
@@ -8,19 +8,18 @@ use Rattle.std.specs.declared.cmp.Ordering.TheVariants.{Less, Equal, Greater}
 use Rattle.std.specs.Ordering.{ordering_reverse}
 use Rattle.std.specs.Str.{bytes_eq}
 use Rattle.std.proofs.lemmas.Cmp.{nat_list_cmp_total}
-use Rattle.snap_core.specs.Value.{Value, dict, no_members, member, value_at, Fields, IsOrdered, AreOrderedMembers}
+use Rattle.snap_core.specs.Value.{Value, no_members, member, value_at, Fields, IsOrdered, AreOrderedMembers}
 use Rattle.snap_core.proofs.Finding.{key_cmp, bytes_eq-Less, bytes_eq-Equal, bytes_eq-unequal}
 use Rattle.patch_core.specs.declared.patch.Patch.{Patch}
 use Rattle.edit_core.specs.declared.kind.Kind.{Kind}
-use Rattle.edit_core.specs.Labelled.{Label, Labelled, Entry, Entries, no_entries, entry, entries, entries_in, bare, bare_fields}
-use Rattle.edit_core.specs.Edit.{Edit, within, at_entry, add, remove}
+use Rattle.edit_core.specs.Labelled.{Label, Labelled, Entry, Entries, no_entries, entry, entries_in, bare}
 use Rattle.edit_core.specs.Plain.{patch_of}
-use Rattle.edit_core.specs.Between.{OldPart, entries_of, Parting, parted, parted_after, edits_at, settings, united, cuts, cleared, entry_edits, edits_between, old_entries_in}
+use Rattle.edit_core.specs.Between.{OldPart, entries_of, Parting, parted, parted_after, edits_at, settings, united, cuts, cleared, entry_edits, old_entries_in}
 use Rattle.edit_core.specs.Typing.{Typing, Rules}
 use Rattle.edit_core.specs.Matching.{by_first}
 use Rattle.edit_core.specs.Template.{template, field_templates, entry_at, new_count, numbered, numbered_entries}
 use Rattle.edit_core.specs.Numbers.{AreNumbered}
-use Rattle.edit_core.specs.Labelling.{IsSuited, IsLabelledBy}
+use Rattle.edit_core.specs.Labelling.{IsSuited}
 use Rattle.edit_core.specs.Rules.{NewPart, all_inside, added, removed, set_at, all_set, all_cleared, record_rule, patches_by_rules, new_fields}
 use Rattle.edit_core.proofs.Bare.{bare-template, bare-numbered}
 use Rattle.edit_core.proofs.Labelling.{EachLabelledBy, IfLabelledBy, found-labelled}
@@ -28,7 +27,8 @@ use Rattle.edit_core.proofs.Ascending.{AllAfter, Ascend, after-further}
 use Rattle.edit_core.proofs.EntryEdits.{keys-equal}
 use Rattle.edit_core.proofs.Places.{plain_fields}
 use Rattle.edit_core.proofs.RuleLinks.{map-joined, patches-in_entry}
-use Rattle.edit_core.proofs.RuleItems.{as_old, Follows, numbered-more}
+use Rattle.edit_core.proofs.OldItems.{as_old, numbered-more}
+use Rattle.edit_core.proofs.RuleItems.{Follows}
 
 abbrev pub old_pairs : List Entry → List (List ℕ × OldPart)
 old_pairs es = map (λ e. (e.0, as_old e.1)) es
@@ -142,11 +142,11 @@ settings-follow done es (n ∷ ns) ascend new_ascend =
     let p : Parting = parted n.0 (old_pairs es) in
     let before : List Entry = done ++ entries_of p.below in
     let rest : map patch_of (settings (before ++ n ∷ []) p.above ns) ≡ sets es ns =
-        ap (λ olds. map patch_of (settings (before ++ n ∷ []) olds ns)) (parted-above n.0 es)
-        ∙ settings-follow (before ++ n ∷ []) (above n.0 es) ns (ascend-above n.0 es ascend) new_ascend.1 ∙ sets-above n.0 es ns new_ascend.0 in
+    ap (λ olds. map patch_of (settings (before ++ n ∷ []) olds ns)) (parted-above n.0 es)
+    ∙ settings-follow (before ++ n ∷ []) (above n.0 es) ns (ascend-above n.0 es ascend) new_ascend.1 ∙ sets-above n.0 es ns new_ascend.0 in
     map-joined patch_of (edits_at before n.0 p.held n.1 (entries_of p.above)) (settings (before ++ n ∷ []) p.above ns)
     ∙ ap (λ xs. xs ++ map patch_of (settings (before ++ n ∷ []) p.above ns))
-        (at-patches before n.0 p.held n.1 (entries_of p.above) ∙ ap (λ held. set_patches n.0 held n.1) (parted-held n.0 es ascend))
+    (at-patches before n.0 p.held n.1 (entries_of p.above) ∙ ap (λ held. set_patches n.0 held n.1) (parted-held n.0 es ascend))
     ∙ ap (λ ys. set_patches n.0 (option_map as_old (entry_at n.0 es)) n.1 ++ ys) rest
 
 -- the keys that only the old record has
@@ -178,9 +178,9 @@ clears-drop k keys [] h = refl
 clears-drop k keys (e ∷ es) h =
     rw (bytes_eq-Less e.0 k h.0)
     (elim (list_any (bytes_eq e.0) keys) as (λ b. (if b then clears (k ∷ keys) es else removed (e.0 ∷ []) (bare e.1) ∷ clears (k ∷ keys) es) ≡ (if b then clears keys es else removed (e.0 ∷ []) (bare e.1) ∷ clears keys es)) [
-        | true ↦ clears-drop k keys es h.1
-        | false ↦ ap (λ ps. removed (e.0 ∷ []) (bare e.1) ∷ ps) (clears-drop k keys es h.1)
-      ])
+      | true ↦ clears-drop k keys es h.1
+      | false ↦ ap (λ ps. removed (e.0 ∷ []) (bare e.1) ∷ ps) (clears-drop k keys es h.1)
+    ])
 
 before-all : (j : List ℕ) (ns : List Entry) → AllAfter j ns → list_any (bytes_eq j) (keys_in ns) ≡ false
 before-all j [] h = refl
@@ -208,8 +208,8 @@ cleared-follow done es [] ascend new_ascend =
 cleared-follow done es (n ∷ ns) ascend new_ascend =
     let p : Parting = parted n.0 (old_pairs es) in
     let rest : map patch_of (cleared (done ++ n ∷ []) p.above ns) ≡ clears (keys_in ns) (above n.0 es) =
-        ap (λ olds. map patch_of (cleared (done ++ n ∷ []) olds ns)) (parted-above n.0 es)
-        ∙ cleared-follow (done ++ n ∷ []) (above n.0 es) ns (ascend-above n.0 es ascend) new_ascend.1 in
+    ap (λ olds. map patch_of (cleared (done ++ n ∷ []) olds ns)) (parted-above n.0 es)
+    ∙ cleared-follow (done ++ n ∷ []) (above n.0 es) ns (ascend-above n.0 es ascend) new_ascend.1 in
     map-joined patch_of (cuts done (entries_of p.below) (n ∷ united p.above ns)) (cleared (done ++ n ∷ []) p.above ns)
     ∙ ap (λ xs. xs ++ map patch_of (cleared (done ++ n ∷ []) p.above ns)) (cuts-follow done (entries_of p.below) (n ∷ united p.above ns) ∙ ap all_cut (parted-below n.0 es))
     ∙ ap (λ ys. all_cut (below n.0 es) ++ ys) rest
@@ -250,7 +250,7 @@ found-ordered : (k : List ℕ) (es : List Entry) → EachOrdered es → IfHeld (
 found-ordered k [] h = tt
 found-ordered k (e ∷ es) h = elim (bytes_eq k e.0) as (λ b. IfHeld (λ x. IsOrdered (bare x)) (if b then Some e.1 else entry_at k es)) [ true ↦ h.0 | false ↦ found-ordered k es h.1 ]
 
-numbered-each : (next further : ℕ) (es : List Entry) → next ≤ further → EachNumbered next es → EachNumbered further es
+pub numbered-each : (next further : ℕ) (es : List Entry) → next ≤ further → EachNumbered next es → EachNumbered further es
 numbered-each next further [] le h = tt
 numbered-each next further (e ∷ es) le h = (numbered-more next further e.1 le h.0, numbered-each next further es le h.1)
 
@@ -281,10 +281,10 @@ module _ (typing : Typing) (suited : IsSuited typing) where
         let further : ℕ = next + new_count (template rules (typing.type_under kind k) slot v) in
         let part : NewPart = record { value = v; patches = λ t old. patches_by_rules typing t old v } in
         let rest : sets es (entries_in (numbered_entries further (field_templates rules ms kind es))) ≡ all_set typing kind (plain_fields es) (new_fields typing ms) =
-            sets-follow further es ms labelled (numbered-each next further es (omega arith) numbers) ordered new_ordered.2 follow.1 in
+        sets-follow further es ms labelled (numbered-each next further es (omega arith) numbers) ordered new_ordered.2 follow.1 in
         ap (λ xs. xs ++ sets es (entries_in (numbered_entries further (field_templates rules ms kind es))))
-            (set-follows k next slot v follow.0 (found-labelled typing kind k es labelled) (found-numbered next k es numbers) (found-ordered k es ordered) new_ordered.0
-                ∙ ap (λ o. set_at k (typing.type_under kind k) o part) (sym (value-plain k es)))
+        (set-follows k next slot v follow.0 (found-labelled typing kind k es labelled) (found-numbered next k es numbers) (found-ordered k es ordered) new_ordered.0
+        ∙ ap (λ o. set_at k (typing.type_under kind k) o part) (sym (value-plain k es)))
         ∙ ap (λ ys. set_at k (typing.type_under kind k) (value_at k (plain_fields es)) part ++ ys) rest
 
     keys-follow : (next : ℕ) (es : List Entry) (ms : Fields) → keys_in (entries_in (numbered_entries next (field_templates rules ms kind es))) ≡ map (λ n. n.0) (new_fields typing ms)
@@ -299,4 +299,4 @@ module _ (typing : Typing) (suited : IsSuited typing) where
         map-joined patch_of (settings [] (old_pairs es) news) (cleared [] (old_pairs es) news)
         ∙ ap (λ xs. xs ++ map patch_of (cleared [] (old_pairs es) news)) (settings-follow [] es news ascend new_ascend ∙ sets-follow next es ms labelled numbers ordered new_ordered follow)
         ∙ ap (λ ys. all_set typing kind (plain_fields es) (new_fields typing ms) ++ ys)
-            (cleared-follow [] es news ascend new_ascend ∙ clears-plain (keys_in news) es ∙ ap (λ ks. all_cleared ks (plain_fields es)) (keys-follow next es ms))
+        (cleared-follow [] es news ascend new_ascend ∙ clears-plain (keys_in news) es ∙ ap (λ ks. all_cleared ks (plain_fields es)) (keys-follow next es ms))

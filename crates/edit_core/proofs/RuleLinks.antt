@@ -1,26 +1,24 @@
 -- What edits by labels and rules over plain values have in common.
-use Rattle.std.proofs.Common.{◌≡◌, ℕ, ◌<◌, List, [], ◌∷◌, ◌++◌, length, map, Bool, true, false, ◌&&◌, ◌||◌, Option, Some, None, decimal, refl, sym, ◌∙◌, ap, subst, arith, inl, inr}
+use Rattle.std.proofs.Common.{◌≡◌, ℕ, ◌<◌, List, [], ◌∷◌, ◌++◌, length, map, Bool, true, false, ◌||◌, Option, Some, None, decimal, refl, sym, ◌∙◌, ap, subst, arith}
 use Rattle.std.specs.Prelude.{◌==◌, if◌then◌else◌}
-use Rattle.std.proofs.lemmas.Bool.Decides.{Decides-eqb, eqb_tells}
+use Rattle.std.proofs.lemmas.Bool.Decides.{Decides-eqb}
 use Rattle.snap_core.specs.declared.number.ModelNo.{ModelNo}
-use Rattle.snap_core.specs.Value.{Value, null, boolean, integer, text, list, dict, no_parts, part, no_members, member, Items, Fields}
-use Rattle.patch_core.specs.declared.patch.Patch.{Patch}
+use Rattle.snap_core.specs.Value.{Value, null, boolean, integer, text, list, dict, Items, Fields}
 use Rattle.pointer_core.specs.Path.{Path}
 use Rattle.edit_core.specs.declared.kind.Kind.{Kind}
 use Rattle.edit_core.specs.declared.kind.Kind.TheVariants.{Model, Array, Map}
-use Rattle.edit_core.specs.Labelled.{Label, Labelled, Entry, Branches, Entries, leaf, many, keyed, no_branches, branch, no_entries, entry, items_in, entries_in, bare, bare_items, bare_fields}
+use Rattle.edit_core.specs.Labelled.{Label, Labelled, Entry, Branches, Entries, leaf, many, keyed, bare, bare_items, bare_fields}
 use Rattle.edit_core.specs.Edit.{Edit, Operation, add, remove, replace, whole, within, moved_to_item, moved_to_entry}
 use Rattle.edit_core.specs.Plain.{patch_at, patch_of, path_to, operation_in}
 use Rattle.edit_core.specs.Comparing.{is_equal, same_kind, same_label}
 use Rattle.edit_core.specs.Between.{stays, edits_between}
-use Rattle.edit_core.specs.Typing.{Typing, Rules, Typed, label_of, kind_in, seen, is_kind, stays_as, equal_under, identity_kept, identity_under}
+use Rattle.edit_core.specs.Typing.{Typing, Rules, Typed, label_of, seen, is_kind, stays_as, equal_under, identity_kept}
 use Rattle.edit_core.specs.Matching.{by_first, identified, same_item}
 use Rattle.edit_core.specs.Template.{NewLabel, Template, kept, standing, label_for, unless_equal, array_template, record_template, template, item_templates, field_templates, drawn, numbered}
-use Rattle.edit_core.specs.Labelling.{SuitsKind, IsSuited, IfArray, IfRecord, IsLabelledBy, AreLabelledBy, HoldLabelledBy}
-use Rattle.edit_core.specs.Rules.{typed, inside, all_inside, replaced, unless_same, array_patches, record_patches, patches_by_rules, new_items, new_fields}
+use Rattle.edit_core.specs.Labelling.{IsSuited, IfArray, IsLabelledBy, AreLabelledBy}
+use Rattle.edit_core.specs.Rules.{typed, inside, all_inside, replaced, patches_by_rules}
 use Rattle.edit_core.proofs.Equal.{equal-is, and-left, and-right, kind-is, label-is}
-use Rattle.edit_core.proofs.Bare.{bare-template, bare-numbered}
-use Rattle.edit_core.proofs.Unchanged.{both-true, equal-itself, kind-itself, stays-itself, between-itself, numbered-kept, template-equal}
+use Rattle.edit_core.proofs.Unchanged.{both-true, stays-itself, numbered-kept, template-equal}
 
 pub map-joined : {X Y : Type 0} (f : X → Y) (xs ys : List X) → map f (xs ++ ys) ≡ map f xs ++ map f ys
 map-joined f [] ys = refl
@@ -179,7 +177,7 @@ module _ (typing : Typing) where
   -- a matched item stays as the new one
 
   identity-from : (name : Option (List ℕ)) (v w : Value) → equal_under name v w ≡ true → identity_kept name v w ≡ true
-  identity-from None v w h = cc h
+  identity-from None v w h = cc
   identity-from (Some name) v w h = h
 
   -- what one model is identified by
@@ -227,6 +225,7 @@ module _ (typing : Typing) where
           let P : Value → Type 0 = λ w. stays o (numbered next (template (by_first typing) t (Some o) w)) ≡ true in
           let Q : Labelled → Type 0 = λ x. stays o x ≡ true in
           subst P same (subst Q (sym (ap (numbered next) (template-equal (by_first typing) t o) ∙ numbered-kept next o)) (stays-itself o))
+
       other : (w : Value) → is_equal (bare o) w ≡ false → Identified (typing.kind_of t w) (seen o) w → stays o (numbered next (template (by_first typing) t (Some o) w)) ≡ true
       other null e i = absurd (suited t null (Model i.model) i.is)
       other (boolean b) e i = absurd (suited t (boolean b) (Model i.model) i.is)
@@ -235,6 +234,7 @@ module _ (typing : Typing) where
       other (list a ps) e i = absurd (suited t (list a ps) (Model i.model) i.is)
       other (dict a ms) e i =
           rw (e, i.is) (model-stays t next o i.model ms (field_templates (by_first typing) ms) labelled i.same (both-true (is_kind (seen o).kind (Model i.model)) (identity_kept (typing.identifier_of i.model) (bare o) (dict tt ms)) i.same i.identity))
+
       go : (b : Bool) → is_equal (bare o) v ≡ b → stays o (numbered next (template (by_first typing) t (Some o) v)) ≡ true
       go true e = equal e
       go false e =

@@ -1,15 +1,14 @@
 -- Old items take new ones one by one, as slots and as matches.
-use Rattle.std.proofs.Common.{◌≡◌, ℕ, ◌+◌, ◌≤◌, List, [], ◌∷◌, map, Bool, true, false, ◌&&◌, Option, Some, None, refl, sym, ◌∙◌, ap, subst, arith}
+use Rattle.std.proofs.Common.{◌≡◌, ℕ, ◌+◌, ◌≤◌, List, [], ◌∷◌, map, Bool, true, false, ◌&&◌, Option, Some, None, refl, ◌∙◌, ap, arith}
 use Rattle.std.specs.Prelude.{◌==◌, sum_by, if◌then◌else◌}
 use Rattle.std.proofs.lemmas.List.Sums.{sum_by-cons}
 use Rattle.snap_core.specs.Value.{Value}
-use Rattle.edit_core.specs.Labelled.{Label, Labelled, leaf, many, keyed, bare}
-use Rattle.edit_core.specs.Typing.{label_of}
+use Rattle.edit_core.specs.Labelled.{Labelled, leaf, many, keyed, bare}
 use Rattle.edit_core.specs.Matching.{Slot, is_open, taken, all_taken, open_slot}
 use Rattle.edit_core.specs.Numbers.{one_where, times, matched_sum}
-use Rattle.edit_core.specs.Rules.{NewPart, Taking, taking, matches}
-use Rattle.edit_core.proofs.RuleLinks.{has, is_number}
-use Rattle.edit_core.proofs.Numbering.{slots_sum, taken-sum}
+use Rattle.edit_core.specs.Rules.{NewPart, Taking, taking}
+use Rattle.edit_core.proofs.RuleLinks.{has}
+use Rattle.edit_core.proofs.Numbering.{slots_sum}
 
 abbrev pub open_part : Option Labelled → NewPart → Option NewPart
 open_part None n = Some n
@@ -72,10 +71,10 @@ module _ (same : Labelled → Value → Bool) (same_value : Value → Value → 
           let same_here : same o new ≡ same_value (bare o) n.value = link new ∙ ap (same_value (bare o)) is in
           rw same_here
           (elim (same_value (bare o) n.value) as (λ b. (taken_or b n (left_of ss ns) (taking same_value (bare o) (left_of ss ns))).left
-              ≡ left_of (if b then record { new = new; old = Some o } ∷ ss else record { new = new; old = None } ∷ taken same o ss) (n ∷ ns)) [
-              | true ↦ refl
-              | false ↦ ap (λ l. Some n ∷ l) rest
-            ])
+          ≡ left_of (if b then record { new = new; old = Some o } ∷ ss else record { new = new; old = None } ∷ taken same o ss) (n ∷ ns)) [
+            | true ↦ refl
+            | false ↦ ap (λ l. Some n ∷ l) rest
+          ])
 
     pub taking-match : (n : ℕ) (st : List Slot) (news : List NewPart) → Aligned st news → has n (Some o) ≡ true → NoneHas n st
         → (taking same_value (bare o) (left_of st news)).match ≡ pick (has n) (taken same o st) news
@@ -90,10 +89,10 @@ module _ (same : Labelled → Value → Bool) (same_value : Value → Value → 
           let same_here : same o new ≡ same_value (bare o) m.value = link new ∙ ap (same_value (bare o)) is in
           rw same_here
           (elim (same_value (bare o) m.value) as (λ b. (taken_or b m (left_of ss ns) (taking same_value (bare o) (left_of ss ns))).match
-              ≡ pick (has n) (if b then record { new = new; old = Some o } ∷ ss else record { new = new; old = None } ∷ taken same o ss) (m ∷ ns)) [
-              | true ↦ rw h
-              | false ↦ rest
-            ])
+          ≡ pick (has n) (if b then record { new = new; old = Some o } ∷ ss else record { new = new; old = None } ∷ taken same o ss) (m ∷ ns)) [
+            | true ↦ rw h
+            | false ↦ rest
+          ])
 
     -- what is taken is the same, and is one of the new items
     pub taking-part : (P : NewPart → Type 0) (st : List Slot) (news : List NewPart) → Aligned st news → AllParts P news

@@ -1,9 +1,5 @@
 -- An equal value changes nothing, and no edits leave all as it was.
-use Rattle.std.proofs.Common.{◌≡◌, ℕ, ◌+◌, List, [], ◌∷◌, ◌++◌, map, Bool, true, false, ◌&&◌, Option, Some, None, refl, sym, ◌∙◌, ap, subst, arith, add-zero}
-use Rattle.std.specs.Prelude.{if◌then◌else◌}
-use Rattle.std.specs.declared.cmp.Ordering.TheVariants.{Equal}
-use Rattle.std.specs.Ordering.{nat_cmp, int_eq}
-use Rattle.std.specs.Cmp.Lexicographic.{slice_cmp}
+use Rattle.std.proofs.Common.{◌≡◌, ℕ, ◌+◌, List, [], ◌∷◌, ◌++◌, Bool, true, false, ◌&&◌, Some, refl, ◌∙◌, ap, arith}
 use Rattle.std.specs.Str.{bytes_eq}
 use Rattle.std.proofs.lemmas.Cmp.{nat_list_cmp_total, tied_itself}
 use Rattle.std.proofs.lemmas.Bool.Decides.{Decides-int_eq, Decides-eqb}
@@ -12,12 +8,12 @@ use Rattle.snap_core.specs.Value.{Value, null, boolean, integer, text, list, dic
 use Rattle.edit_core.specs.declared.kind.Kind.{Kind}
 use Rattle.edit_core.specs.declared.kind.Kind.TheVariants.{Model, Array, Map}
 use Rattle.edit_core.specs.Labelled.{Label, Labelled, Entry, Branches, Entries, leaf, many, keyed, no_branches, branch, no_entries, entry, items_in, entries_in, bare}
-use Rattle.edit_core.specs.Edit.{Edit, LeadInTurn, no_edits, one_edit, moved_to_item, moved_to_entry, whole}
+use Rattle.edit_core.specs.Edit.{Edit, LeadInTurn, no_edits, one_edit}
 use Rattle.edit_core.specs.Comparing.{same_truth, is_equal, are_equal, have_equal, same_kind, same_label}
-use Rattle.edit_core.specs.Between.{OldPart, values, entries_of, stays, all_stay, one_by_one, moved, item_edits, parted, parted_after, settings, united, cleared, entry_edits, edits_between, olds_in, old_entries_in}
+use Rattle.edit_core.specs.Between.{stays, all_stay, one_by_one, settings, cleared, edits_between, olds_in, old_entries_in}
 use Rattle.edit_core.specs.Typing.{Rules}
 use Rattle.edit_core.specs.Template.{Template, kept, kept_branches, kept_entries, unless_equal, template, numbered, numbered_items, numbered_entries, new_count, new_count_items, new_count_entries}
-use Rattle.edit_core.specs.Reconciling.{Setting, Written, written_as, reconciled}
+use Rattle.edit_core.specs.Reconciling.{Setting, written_as, reconciled}
 use Rattle.edit_core.specs.Laws.{ChangesNothing}
 use Rattle.edit_core.proofs.Reconciling.{reconciled-leads}
 

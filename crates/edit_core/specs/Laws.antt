@@ -8,10 +8,11 @@ use Rattle.edit_core.specs.Application.{Fits, after_edit, FitInTurn, after_edits
 use Rattle.edit_core.specs.Around.{Around, standing_in, seen_from}
 use Rattle.edit_core.specs.Between.{stays, edits_between}
 use Rattle.edit_core.specs.Plain.{IsShort, patch_of}
-use Rattle.edit_core.specs.Typing.{Typing, Rules}
-use Rattle.edit_core.specs.Matching.{first_matching, by_first}
+use Rattle.edit_core.specs.Typing.{Typing, Rules, seen}
+use Rattle.edit_core.specs.Matching.{first_matching, by_first, same_item}
 use Rattle.edit_core.specs.Template.{template, numbered}
 use Rattle.edit_core.specs.Labelling.{IsSuited, IsLabelledBy}
+use Rattle.edit_core.specs.Rules.{patches_by_rules}
 use Rattle.edit_core.specs.Numbers.{AreNumbered, MatchesOnce, HasNumbers}
 use Rattle.edit_core.specs.Reconciling.{Setting, Written, reconciled}
 
@@ -71,6 +72,12 @@ NumbersDiffer =
 abbrev pub FirstMatchesOnce : Type 0
 FirstMatchesOnce = (typing : Typing) → MatchesOnce (first_matching typing)
 
+-- an old item that is the same as a new one keeps its node where it is matched with it
+abbrev pub MatchedItemsStay : Type 0
+MatchedItemsStay =
+    (typing : Typing) → IsSuited typing → (s : Setting) → IsLabelledBy typing s.type s.old → IsTrue (same_item typing s.type (seen s.old) s.new)
+    → IsTrue (stays s.old (reconciled (by_first typing) s).value)
+
 -- an equal value changes nothing, and where there are no edits, nothing is changed
 pub record ChangesNothing (s : Setting) (w : Written) : Type 0 where
   pub equal : s.new ≡ bare s.old → w ≡ record { value = s.old; edits = []; next = s.next }
@@ -86,3 +93,18 @@ pub record LabelsAreTyped (typing : Typing) : Type 0 where
 
 abbrev pub LabelsFollowTypes : Type 0
 LabelsFollowTypes = (typing : Typing) → IsSuited typing → LabelsAreTyped typing
+
+-- a value can be set: the old one is labelled as its type says, with numbers that differ and are below the next
+-- one, and the keys of both values ascend
+pub record CanBeSet (typing : Typing) (s : Setting) : Type 0 where
+  pub suited : IsSuited typing
+  pub labelled : IsLabelledBy typing s.type s.old
+  pub numbered : AreNumbered s.next s.old
+  pub ordered : IsOrdered (bare s.old)
+  pub new_ordered : IsOrdered s.new
+
+-- without labels, the edits are exactly the patches that the rules give for the two plain values
+abbrev pub ReconcilingFollowsTheRules : Type 0
+ReconcilingFollowsTheRules =
+    (typing : Typing) (s : Setting) → CanBeSet typing s
+    → map patch_of (reconciled (by_first typing) s).edits ≡ patches_by_rules typing s.type (bare s.old) s.new

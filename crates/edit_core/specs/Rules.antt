@@ -1,14 +1,14 @@
 -- The rules of reconciling over plain values: which patches lead from an old value to a new one of the same type.
-use Rattle.std.specs.Prelude.{ℕ, zero, suc, List, [], ◌∷◌, ◌++◌, map, Bool, Option, Some, None, decimal, if◌then◌else◌}
+use Rattle.std.specs.Prelude.{ℕ, suc, List, [], ◌∷◌, ◌++◌, map, Bool, Option, Some, None, decimal, if◌then◌else◌}
 use Rattle.std.specs.List.{list_any}
 use Rattle.std.specs.Str.{bytes_eq}
-use Rattle.snap_core.specs.Value.{Value, list, dict, no_parts, part, no_members, member, value_at, keys_of, Items, Fields}
+use Rattle.snap_core.specs.Value.{Value, list, dict, no_parts, part, no_members, member, value_at, Items, Fields}
 use Rattle.snap_core.specs.Unview.{snap_of}
 use Rattle.pointer_core.specs.Path.{Path}
 use Rattle.patch_core.specs.declared.patch.Patch.{Patch}
 use Rattle.patch_core.specs.declared.patch.PatchOp.TheVariants.{Add, Replace, Remove}
 use Rattle.edit_core.specs.declared.kind.Kind.{Kind}
-use Rattle.edit_core.specs.declared.kind.Kind.TheVariants.{Array, Map, Model}
+use Rattle.edit_core.specs.declared.kind.Kind.TheVariants.{Array}
 use Rattle.edit_core.specs.Comparing.{is_equal}
 use Rattle.edit_core.specs.Typing.{Typing, Typed, stays_as}
 use Rattle.edit_core.specs.Matching.{same_item, pairwise}

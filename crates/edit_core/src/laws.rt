@@ -1,4 +1,4 @@
-ghost use Rattle.edit_core.specs.Laws.{EditsLeadToOne, EditsAreTakenBack, EditsLeadAcross, ReconcilingLeadsToTheNew, PatchesLeadToTheNew, NumbersDiffer, FirstMatchesOnce, EqualChangesNothing, LabelsFollowTypes};
+ghost use Rattle.edit_core.specs.Laws.{EditsLeadToOne, EditsAreTakenBack, EditsLeadAcross, ReconcilingLeadsToTheNew, PatchesLeadToTheNew, NumbersDiffer, FirstMatchesOnce, EqualChangesNothing, LabelsFollowTypes, ReconcilingFollowsTheRules, MatchedItemsStay};
 
 /// An edit that leads from a labelled snapshot leads to one alone.
 pub fn edits_lead_to_one()
@@ -43,4 +43,14 @@ pub fn equal_changes_nothing()
 /// Each node has the kind that its type gives it, also after a value is set.
 pub fn labels_follow_types()
     ensures { LabelsFollowTypes }
+{}
+
+/// Without labels, the edits of reconciling are the patches that its rules give for the plain values.
+pub fn reconciling_follows_the_rules()
+    ensures { ReconcilingFollowsTheRules }
+{}
+
+/// An old item that is the same as a new one keeps its node where it is matched with it.
+pub fn matched_items_stay()
+    ensures { MatchedItemsStay }
 {}
