@@ -7,3 +7,4 @@ pub mod InPlace
 pub mod Readings
 pub mod ReadBack
 pub mod ReadValues
+pub mod PrintedPlain

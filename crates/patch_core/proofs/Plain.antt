@@ -1,17 +1,19 @@
 -- Plain values stay plain, whatever patch is applied with a plain value.
 use Rattle.std.proofs.Common.{◌≡◌, ℕ, List, [], ◌∷◌, Option, Some, None, Result, Ok, Err, refl, sym, subst}
-use Rattle.std.specs.Prelude.{is_some, OnErr, if◌then◌else◌}
+use Rattle.std.specs.Prelude.{is_some, unwrap_or, OnErr, if◌then◌else◌}
 use Rattle.std.specs.Option.{option_map}
 use Rattle.snap_core.specs.View.{view}
 use Rattle.snap_core.specs.declared.snap.Snap.{Snap}
 use Rattle.patch_core.specs.Outcome.{Answers}
-use Rattle.snap_core.specs.Value.{Value, Tree, TreeItems, TreeFields, list, dict, value_at, IsPlain, ArePlain, ArePlainMembers}
+use Rattle.patch_core.specs.Printing.{IsPlainMaybe, HasPlainValues}
+use Rattle.patch_core.specs.declared.patch.Patch.{Patch}
+use Rattle.snap_core.specs.Value.{Value, null, Tree, TreeItems, TreeFields, list, dict, value_at, IsPlain, ArePlain, ArePlainMembers}
 use Rattle.snap_core.specs.Level.{Step, count_of, child, set_child, set_field, insert_field, remove_field}
 use Rattle.snap_core.proofs.PlainLevels.{ArePlain-set_item, ArePlain-insert_item, ArePlain-remove_item, ArePlainMembers-set_field, ArePlainMembers-insert_field, ArePlainMembers-remove_field, IsPlain-child, IsPlain-set_child}
 use Rattle.patch_core.proofs.Ordered.{Holds, Holds-map}
 use Rattle.pointer_core.specs.Path.{Path}
 use Rattle.patch_core.specs.Place.{step_of}
-use Rattle.patch_core.specs.Application.{index_for, with_index, items_changed, items_after, where_held, fields_after, edited, inside, after_part, changed}
+use Rattle.patch_core.specs.Application.{written, index_for, with_index, items_changed, items_after, where_held, fields_after, edited, inside, after_part, changed}
 use Rattle.patch_core.specs.declared.error.PatchError.{PatchError}
 use Rattle.patch_core.specs.declared.error.PatchError.TheVariants as error
 use Rattle.patch_core.specs.declared.patch.PatchOp.{PatchOp}
@@ -68,3 +70,11 @@ pub stays_plain : (r : Result (Unit {0}) PatchError) (outcome : Result Value Pat
     → Answers r outcome (view t) → OnErr r (t ≡ s) → IsPlain (view s) → IsPlain (view t)
 stays_plain (Ok done) outcome s t holds answers kept plain = let P : Result Value PatchError → Type 0 = λ o. Holds (λ (u : Value). IsPlain u) o in subst P answers holds
 stays_plain (Err e) outcome s t holds answers kept plain = let P : Snap → Type 0 = λ x. IsPlain (view x) in subst P (sym kept) plain
+
+null_or_plain : (value : Option Snap) → IsPlainMaybe value → IsPlain (unwrap_or (option_map view value) null)
+null_or_plain None plain = tt
+null_or_plain (Some v) plain = plain
+
+-- what a patch with plain values writes is plain
+pub written_plain : (p : Patch) → HasPlainValues p → IsPlain (written p)
+written_plain p plain = null_or_plain p.value plain.0

@@ -2,12 +2,13 @@
 use Rattle.std.proofs.Common.{◌≡◌, ℕ, List, [], ◌∷◌, map, Option, Some, None, Result, Ok, Err, refl, subst}
 use Rattle.std.specs.Prelude.{All, IfOk, codes, unwrap_or}
 use Rattle.std.specs.Option.{option_map}
-use Rattle.std.proofs.lemmas.List.Elements.{All-nil, All-cons}
+use Rattle.std.proofs.lemmas.List.Elements.{All-nil, All-cons, All-head, All-tail}
 use Rattle.snap_core.specs.Value.{Value, Items, Fields, null, dict, no_parts, part, value_at, IsPlain, ArePlain, IsOrdered, AreOrdered}
 use Rattle.snap_core.specs.View.{view}
 use Rattle.snap_core.specs.declared.snap.Snap.{Snap}
 use Rattle.snap_core.proofs.Keys.{IsOrdered-value_at, IsPlain-value_at}
 use Rattle.patch_core.specs.Application.{HasWritten, HasValue, written}
+use Rattle.patch_core.specs.Printing.{IsPlainMaybe, HasPlainValues}
 use Rattle.patch_core.specs.Reading.{Spelling, op_named, text_in, spelled, spelled_texts, spelling_of, spellings_of, both, spelling_for, IsReadAs}
 use Rattle.patch_core.specs.declared.error.PatchError.{PatchError}
 use Rattle.patch_core.specs.declared.patch.PatchOp.{PatchOp}
@@ -103,6 +104,20 @@ pub read_ordered : (r : Result (List Patch) PatchError) (vs : Items) → AreOrde
 read_ordered (Ok ps) vs ordered reads = written_all (λ w. IsOrdered w) ps tt (good (λ w. IsOrdered w) (spellings_of vs) ps (all_ordered vs ordered) reads)
 read_ordered (Err e) vs ordered reads = tt
 
-pub read_plain : (r : Result (List Patch) PatchError) (vs : Items) → ArePlain vs → IfOk r (λ ps. IsReadAs (spellings_of vs) ps) → IfOk r (λ ps. All (λ p. IsPlain (written p)) ps)
-read_plain (Ok ps) vs plain reads = written_all (λ w. IsPlain w) ps tt (good (λ w. IsPlain w) (spellings_of vs) ps (all_plain vs plain) reads)
+plain_maybe : (value : Option Snap) → Maybe (λ w. IsPlain w) (option_map view value) → IsPlainMaybe value
+plain_maybe None h = tt
+plain_maybe (Some v) h = h
+
+none_plain : (old : Option Snap) → old ≡ None → IsPlainMaybe old
+none_plain None e = tt
+none_plain (Some v) e = cc
+
+plain_all : (ps : List Patch) → AllGood (λ w. IsPlain w) (map spelling_for ps) → All (λ p. p.old ≡ None) ps → All HasPlainValues ps
+plain_all [] h none = All-nil HasPlainValues
+plain_all (p ∷ ps) h none =
+    let P : Patch → Type 0 = λ q. q.old ≡ None in
+    All-cons HasPlainValues p ps (plain_maybe p.value h.0.1, none_plain p.old (All-head P p ps none)) (plain_all ps h.1 (All-tail P p ps none))
+
+pub read_plain : (r : Result (List Patch) PatchError) (vs : Items) → ArePlain vs → IfOk r (λ ps. IsReadAs (spellings_of vs) ps) → IfOk r (λ ps. All HasPlainValues ps)
+read_plain (Ok ps) vs plain reads = plain_all ps (good (λ w. IsPlain w) (spellings_of vs) ps (all_plain vs plain) reads) reads.1
 read_plain (Err e) vs plain reads = tt

@@ -1,6 +1,6 @@
 -- Patches as JSON shows them.
 use Rattle.std.specs.Prelude.{ℕ, List, [], ◌∷◌, ◌++◌, codes, map, Option, Some, None}
-use Rattle.snap_core.specs.Value.{Value, text, list, dict}
+use Rattle.snap_core.specs.Value.{Value, text, list, dict, IsPlain}
 use Rattle.snap_core.specs.View.{view, parts_of, members_of}
 use Rattle.snap_core.specs.declared.snap.Snap.{Snap}
 use Rattle.pointer_core.specs.Path.{printed}
@@ -25,6 +25,14 @@ printed_entries p =
 
 abbrev pub printed_patch : Patch → Value
 printed_patch p = dict tt (members_of (printed_entries p))
+
+-- the values of a patch are plain, where it has them
+abbrev pub IsPlainMaybe : Option Snap → Type 0
+IsPlainMaybe None = Unit {0}
+IsPlainMaybe (Some v) = IsPlain (view v)
+
+abbrev pub HasPlainValues : Patch → Type 0
+HasPlainValues p = IsPlainMaybe p.value × IsPlainMaybe p.old
 
 abbrev pub printed_patches : List Patch → Value
 printed_patches ps = list tt (parts_of (map printed_patch ps))

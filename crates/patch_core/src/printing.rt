@@ -1,8 +1,8 @@
 //! Patches as values for JSON.
-ghost use Rattle.std.specs.Prelude.{◌≡◌, [], ◌∷◌, ◌++◌, map, IfOk, IfErr, OnOk};
-ghost use Rattle.snap_core.specs.Value.{text};
+ghost use Rattle.std.specs.Prelude.{◌≡◌, [], ◌∷◌, ◌++◌, map, All, IfOk, IfErr, OnOk};
+ghost use Rattle.snap_core.specs.Value.{text, IsPlain};
 ghost use Rattle.snap_core.specs.View.{view, entry};
-ghost use Rattle.patch_core.specs.Printing.{entry_with, printed_patch, printed_patches};
+ghost use Rattle.patch_core.specs.Printing.{HasPlainValues, entry_with, printed_patch, printed_patches};
 
 use crate::error::PatchError;
 use crate::patch::Patch;
@@ -14,6 +14,7 @@ use std::alloc::{AllocError, Global};
 /// Patches as a list of records, with ascending keys.
 pub fn print_patches(alloc: Global, patches: &Patches) -> Result<Snap, PatchError>
     ensures ok { IfOk result (λ shown. view shown ≡ printed_patches patches.now) }
+    ensures plain { All HasPlainValues patches.now → IfOk result (λ shown. IsPlain (view shown)) }
     ensures err { IfErr result (λ error. error ≡ PatchError.Memory) }
 {
     Ok(Snap::List(print_all(alloc, patches.as_slice())?))

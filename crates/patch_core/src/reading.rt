@@ -6,6 +6,7 @@ ghost use Rattle.snap_core.specs.Value.{IsPlain, ArePlain, IsOrdered, AreOrdered
 ghost use Rattle.snap_core.specs.View.{view, items_view, fields_view};
 ghost use Rattle.pointer_core.specs.Path.{printed};
 ghost use Rattle.patch_core.specs.Application.{HasValue, written};
+ghost use Rattle.patch_core.specs.Printing.{HasPlainValues};
 ghost use Rattle.patch_core.specs.Reading.{text_in, spelled, spelled_texts, spelling_of, spellings_of, spelling_for, IsReadAs, Reads, HasNoPointer, IsPathRefused, IsRefusedAs, Refuses};
 ghost use Rattle.patch_core.specs.Drafts.{seen};
 
@@ -24,7 +25,7 @@ pub fn read_patches(alloc: Global, list: &Snap) -> Result<Patches, PatchError>
     ensures ok { IfOk result (λ patches. Reads (view list.now) patches) }
     ensures values { IfOk result (λ patches. All HasValue patches) }
     ensures ordered { IfOk result (λ patches. All (λ p. IsOrdered (written p)) patches) }
-    ensures plain { IsPlain (view list.now) → IfOk result (λ patches. All (λ p. IsPlain (written p)) patches) }
+    ensures plain { IsPlain (view list.now) → IfOk result (λ patches. All HasPlainValues patches) }
     ensures err { IfErr result (λ error. Refuses (view list.now) error) }
 {
     match list {
@@ -38,7 +39,7 @@ fn read_items(alloc: Global, items: &[Snap]) -> Result<Patches, PatchError>
     ensures ok { IfOk result (λ patches. IsReadAs (spellings_of (items_view items.now)) patches) }
     ensures values { IfOk result (λ patches. All HasValue patches) }
     ensures ordered { IfOk result (λ patches. All (λ p. IsOrdered (written p)) patches) }
-    ensures plain { ArePlain (items_view items.now) → IfOk result (λ patches. All (λ p. IsPlain (written p)) patches) }
+    ensures plain { ArePlain (items_view items.now) → IfOk result (λ patches. All HasPlainValues patches) }
     ensures err { IfErr result (λ error. IsRefusedAs (Any HasNoPointer) (spellings_of (items_view items.now)) error) }
 {
     if are_spelled(items) {

@@ -1,0 +1,35 @@
+//! Cases as data, over patches. Each table of `data/` has a case on each line: what is given, ` => `, and what it
+//! comes to. A line that is empty or begins with `#` is a comment.
+//!
+//! Each case that comes out otherwise is printed, and so is each line that is no case; the last line counts. With
+//! a word, the table in the file of that name is judged in place of those of `data/`, as `applying.txt` is.
+#![tactic(auto)]
+
+mod judge;
+mod table;
+mod tally;
+
+use crate::judge::Judge;
+use crate::tally::Tally;
+use std::rt::Env;
+use std::{env, io};
+
+fn main(rt: HostRuntime) -> io::Result<()> {
+    let mut tally = Tally::new();
+    match given_table(&rt)? {
+        Some(name) => table::run(&rt, &mut tally, name.as_str(), Judge::Applied)?,
+        None => {
+            table::run(&rt, &mut tally, "applying.txt", Judge::Applied)?;
+            table::run(&rt, &mut tally, "reading.txt", Judge::Read)?;
+        }
+    }
+    println!(rt; "{tally}")
+}
+
+// The first word behind the program's name.
+fn given_table<R: Env + AllocGlobal>(rt: &R) -> io::Result<Option<String>> {
+    for word in env::args(rt)?.skip(1) {
+        return Ok(Some(word));
+    }
+    Ok(None)
+}
