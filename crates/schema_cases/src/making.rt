@@ -92,13 +92,18 @@ fn judge_case<R: Print + AllocGlobal>(
 
 // What the root makes of a text.
 fn made(alloc: Global, schema: &Schema, text: &str) -> Result<String, AllocError> {
-    let given = match read_snap(alloc, text.as_bytes()) {
-        Ok(given) => given,
-        Err(error) => return misread(alloc, &error),
-    };
-    let types = schema.types();
+    match read_snap(alloc, text.as_bytes()) {
+        Ok(given) => made_of(alloc, schema.types(), &given),
+        Err(error) => misread(alloc, &error),
+    }
+}
+
+// What the root makes of a value.
+fn made_of(alloc: Global, types: &Types, given: &Snap) -> Result<String, AllocError>
+    requires { IsPlain (view given.now) }
+{
     let t = types.model_type(types.root());
-    match make(alloc, types, t, Some(&given)) {
+    match make(alloc, types, t, Some(given)) {
         Ok(made) => unless_doubled(alloc, types, &made),
         Err(MakeError::Refused(refusal)) => refused(alloc, refusal.rule.name(), &refusal.path),
         Err(MakeError::Memory) => Err(AllocError),
