@@ -1,12 +1,12 @@
 -- Keys that ascend, each before all that follow it.
-use Rattle.std.proofs.Common.{◌≡◌, ℕ, ◌<◌, ◌≤◌, ◌^◌, List, [], ◌∷◌, ◌++◌, refl, sym, ◌∙◌, ap, subst, arith}
+use Rattle.std.proofs.Common.{◌≡◌, ℕ, ◌<◌, ◌^◌, List, [], ◌∷◌, ◌++◌, refl, ◌∙◌, ap, subst, arith}
 use Rattle.std.specs.declared.cmp.Ordering.{Ordering}
 use Rattle.std.specs.declared.cmp.Ordering.TheVariants.{Less, Equal, Greater}
 use Rattle.std.specs.Ordering.{ordering_reverse}
 use Rattle.std.proofs.lemmas.Cmp.{nat_list_cmp_total}
 use Rattle.snap_core.proofs.Finding.{key_cmp}
 use Rattle.edit_core.specs.Labelled.{Labelled, Entry}
-use Rattle.edit_core.specs.Between.{Old, entries_of, Parting, parted_after, parted}
+use Rattle.edit_core.specs.Between.{OldPart, entries_of, Parting, parted_after, parted}
 use Rattle.edit_core.proofs.Leading.{Conditions}
 use Rattle.edit_core.proofs.EntryEdits.{keys-equal}
 
@@ -50,7 +50,7 @@ ascend-other (e ∷ xs) zs k x y h =
     (after-joined e.0 xs ((k, y) ∷ zs) (after-front e.0 xs ((k, x) ∷ zs) h.0) (after-rest e.0 xs ((k, x) ∷ zs) h.0), ascend-other xs zs k x y h.1)
 
 -- those below a key and above it are among all
-after-parts : (k key : List ℕ) (olds : List (List ℕ × Old)) → AllAfter k (entries_of olds) → AllAfter k (entries_of (parted key olds).below) × AllAfter k (entries_of (parted key olds).above)
+after-parts : (k key : List ℕ) (olds : List (List ℕ × OldPart)) → AllAfter k (entries_of olds) → AllAfter k (entries_of (parted key olds).below) × AllAfter k (entries_of (parted key olds).above)
 after-parts k key [] h = (tt, tt)
 after-parts k key (e ∷ es) h = go (key_cmp e.0 key) (after-parts k key es h.1) where
   go : (o : Ordering) → AllAfter k (entries_of (parted key es).below) × AllAfter k (entries_of (parted key es).above)
@@ -62,7 +62,7 @@ after-parts k key (e ∷ es) h = go (key_cmp e.0 key) (after-parts k key es h.1)
 abbrev SetAmong : List Entry → Entry → Parting → List Entry → Type 0
 SetAmong done n parts ns = Ascend ((done ++ entries_of parts.below) ++ n ∷ entries_of parts.above) × Ascend (((done ++ entries_of parts.below) ++ n ∷ []) ++ ns)
 
-set-first : (n : Entry) (olds : List (List ℕ × Old)) (ns : List Entry) → Ascend (entries_of olds) → Ascend (n ∷ ns) → SetAmong [] n (parted n.0 olds) ns
+set-first : (n : Entry) (olds : List (List ℕ × OldPart)) (ns : List Entry) → Ascend (entries_of olds) → Ascend (n ∷ ns) → SetAmong [] n (parted n.0 olds) ns
 set-first n [] ns h g = ((tt, tt), g)
 set-first n (e ∷ es) ns h g = go (key_cmp e.0 n.0) refl (set-first n es ns h.1 g) where
   go : (o : Ordering) → key_cmp e.0 n.0 ≡ o → SetAmong [] n (parted n.0 es) ns → SetAmong [] n (parted_after e es (parted n.0 es) o) ns
@@ -78,7 +78,7 @@ set-first n (e ∷ es) ns h g = go (key_cmp e.0 n.0) refl (set-first n es ns h.1
       let less : key_cmp n.0 e.0 ≡ Less = nat_list_cmp_total.antisymm n.0 e.0 ∙ ap ordering_reverse greater in
       (((less, after-further n.0 e.0 (entries_of es) less h.0), h), g)
 
-pub ascend-set : (done : List Entry) (n : Entry) (olds : List (List ℕ × Old)) (ns : List Entry) → Ascend (done ++ entries_of olds) → Ascend (done ++ n ∷ ns) → SetAmong done n (parted n.0 olds) ns
+pub ascend-set : (done : List Entry) (n : Entry) (olds : List (List ℕ × OldPart)) (ns : List Entry) → Ascend (done ++ entries_of olds) → Ascend (done ++ n ∷ ns) → SetAmong done n (parted n.0 olds) ns
 ascend-set [] n olds ns h g = set-first n olds ns h g
 ascend-set (d ∷ done) n olds ns h g =
     let rest = ascend-set done n olds ns h.1 g.1 in

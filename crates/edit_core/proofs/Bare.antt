@@ -1,11 +1,11 @@
 -- Without its labels, a written value is the value that is given.
-use Rattle.std.proofs.Common.{◌≡◌, ℕ, ◌+◌, List, Bool, true, false, Option, Some, None, if◌then◌else◌, refl, sym, ◌∙◌, ap}
+use Rattle.std.proofs.Common.{◌≡◌, ℕ, ◌+◌, List, Bool, true, false, Option, Some, None, if◌then◌else◌, refl, ◌∙◌, ap}
 use Rattle.snap_core.specs.Value.{Value, null, boolean, integer, text, list, dict, no_parts, part, no_members, member, Items, Fields}
 use Rattle.edit_core.specs.declared.kind.Kind.{Kind}
 use Rattle.edit_core.specs.declared.kind.Kind.TheVariants.{Model, Array, Map}
-use Rattle.edit_core.specs.Labelled.{Label, Annotated, Branches, Entries, Labelled, Entry, leaf, many, keyed, no_branches, branch, no_entries, entry, bare, bare_items, bare_fields}
+use Rattle.edit_core.specs.Labelled.{Label, Branches, Entries, Labelled, Entry, leaf, many, keyed, no_branches, branch, no_entries, entry, bare, bare_items, bare_fields}
 use Rattle.edit_core.specs.Comparing.{is_equal}
-use Rattle.edit_core.specs.Rules.{Rules, Matching}
+use Rattle.edit_core.specs.Typing.{Rules}
 use Rattle.edit_core.specs.Template.{NewLabel, Template, kept, kept_branches, kept_entries, unless_equal, array_template, record_template, template, item_templates, field_templates, first_in, rest_of, entry_at, draws, new_count, numbered, numbered_items, numbered_entries}
 use Rattle.edit_core.proofs.Equal.{equal-is}
 
@@ -30,12 +30,12 @@ bare-unless_equal (Some old) v other h = go (is_equal (bare old) v) refl where
   go true same = bare-kept old ∙ equal-is (bare old) v same
   go false different = h
 
-bare-array : (r : Rules) (matching : Matching) (kind : Option Kind) (old : Option Labelled) (ps : Items) (making : ℕ → List (Option Labelled) → Branches NewLabel)
-    → ((t : ℕ) (olds : List (Option Labelled)) → bare_items (making t olds) ≡ ps) → bare (array_template r matching kind old ps making) ≡ list tt ps
-bare-array r matching (Some (Array t)) old ps making h = ap (list tt) (h t.0 _)
-bare-array r matching (Some (Map t)) old ps making h = refl
-bare-array r matching (Some (Model m)) old ps making h = refl
-bare-array r matching None old ps making h = refl
+bare-array : (r : Rules) (kind : Option Kind) (old : Option Labelled) (ps : Items) (making : ℕ → List (Option Labelled) → Branches NewLabel)
+    → ((t : ℕ) (olds : List (Option Labelled)) → bare_items (making t olds) ≡ ps) → bare (array_template r kind old ps making) ≡ list tt ps
+bare-array r (Some (Array t)) old ps making h = ap (list tt) (h t.0 _)
+bare-array r (Some (Map t)) old ps making h = refl
+bare-array r (Some (Model m)) old ps making h = refl
+bare-array r None old ps making h = refl
 
 bare-record : (r : Rules) (kind : Option Kind) (old : Option Labelled) (ms : Fields) (making : Kind → List Entry → Entries NewLabel)
     → ((k : Kind) (olds : List Entry) → bare_fields (making k olds) ≡ ms) → bare (record_template r kind old ms making) ≡ dict tt ms
@@ -45,30 +45,30 @@ bare-record r (Some (Model m)) old ms making h = ap (dict tt) (h (Model m) _)
 bare-record r None old ms making h = refl
 
 mutual
-  pub bare-template : (r : Rules) (matching : Matching) (t : ℕ) (old : Option Labelled) (v : Value) → bare (template r matching t old v) ≡ v
-  bare-template r matching t old null = refl
-  bare-template r matching t old (boolean b) = refl
-  bare-template r matching t old (integer z) = refl
-  bare-template r matching t old (text s) = refl
-  bare-template r matching t old (list a ps) =
-      bare-unless_equal old (list a ps) (array_template r matching (r.kind_of t (list a ps)) old ps (item_templates r matching ps))
-      (bare-array r matching (r.kind_of t (list a ps)) old ps (item_templates r matching ps) (bare-items r matching ps))
-  bare-template r matching t old (dict a ms) =
-      bare-unless_equal old (dict a ms) (record_template r (r.kind_of t (dict a ms)) old ms (field_templates r matching ms))
-      (bare-record r (r.kind_of t (dict a ms)) old ms (field_templates r matching ms) (bare-fields r matching ms))
+  pub bare-template : (r : Rules) (t : ℕ) (old : Option Labelled) (v : Value) → bare (template r t old v) ≡ v
+  bare-template r t old null = refl
+  bare-template r t old (boolean b) = refl
+  bare-template r t old (integer z) = refl
+  bare-template r t old (text s) = refl
+  bare-template r t old (list a ps) =
+      bare-unless_equal old (list a ps) (array_template r (r.typing.kind_of t (list a ps)) old ps (item_templates r ps))
+      (bare-array r (r.typing.kind_of t (list a ps)) old ps (item_templates r ps) (bare-items r ps))
+  bare-template r t old (dict a ms) =
+      bare-unless_equal old (dict a ms) (record_template r (r.typing.kind_of t (dict a ms)) old ms (field_templates r ms))
+      (bare-record r (r.typing.kind_of t (dict a ms)) old ms (field_templates r ms) (bare-fields r ms))
 
-  bare-items : (r : Rules) (matching : Matching) (ps : Items) (t : ℕ) (olds : List (Option Labelled)) → bare_items (item_templates r matching ps t olds) ≡ ps
-  bare-items r matching no_parts t olds = refl
-  bare-items r matching (part v ps) t olds =
-      let e : bare (template r matching t (first_in olds) v) ≡ v = bare-template r matching t (first_in olds) v in
-      let es : bare_items (item_templates r matching ps t (rest_of olds)) ≡ ps = bare-items r matching ps t (rest_of olds) in
+  pub bare-items : (r : Rules) (ps : Items) (t : ℕ) (olds : List (Option Labelled)) → bare_items (item_templates r ps t olds) ≡ ps
+  bare-items r no_parts t olds = refl
+  bare-items r (part v ps) t olds =
+      let e : bare (template r t (first_in olds) v) ≡ v = bare-template r t (first_in olds) v in
+      let es : bare_items (item_templates r ps t (rest_of olds)) ≡ ps = bare-items r ps t (rest_of olds) in
       cc
 
-  bare-fields : (r : Rules) (matching : Matching) (ms : Fields) (kind : Kind) (olds : List Entry) → bare_fields (field_templates r matching ms kind olds) ≡ ms
-  bare-fields r matching no_members kind olds = refl
-  bare-fields r matching (member k v ms) kind olds =
-      let e : bare (template r matching (r.type_under kind k) (entry_at k olds) v) ≡ v = bare-template r matching (r.type_under kind k) (entry_at k olds) v in
-      let es : bare_fields (field_templates r matching ms kind olds) ≡ ms = bare-fields r matching ms kind olds in
+  pub bare-fields : (r : Rules) (ms : Fields) (kind : Kind) (olds : List Entry) → bare_fields (field_templates r ms kind olds) ≡ ms
+  bare-fields r no_members kind olds = refl
+  bare-fields r (member k v ms) kind olds =
+      let e : bare (template r (r.typing.type_under kind k) (entry_at k olds) v) ≡ v = bare-template r (r.typing.type_under kind k) (entry_at k olds) v in
+      let es : bare_fields (field_templates r ms kind olds) ≡ ms = bare-fields r ms kind olds in
       cc
 
 mutual
@@ -77,14 +77,14 @@ mutual
   bare-numbered next (many l bs) = ap (list tt) (bare-numbered_items (next + draws l) bs)
   bare-numbered next (keyed l es) = ap (dict tt) (bare-numbered_entries (next + draws l) es)
 
-  bare-numbered_items : (next : ℕ) (bs : Branches NewLabel) → bare_items (numbered_items next bs) ≡ bare_items bs
+  pub bare-numbered_items : (next : ℕ) (bs : Branches NewLabel) → bare_items (numbered_items next bs) ≡ bare_items bs
   bare-numbered_items next no_branches = refl
   bare-numbered_items next (branch x bs) =
       let e : bare (numbered next x) ≡ bare x = bare-numbered next x in
       let es : bare_items (numbered_items (next + new_count x) bs) ≡ bare_items bs = bare-numbered_items (next + new_count x) bs in
       cc
 
-  bare-numbered_entries : (next : ℕ) (es : Entries NewLabel) → bare_fields (numbered_entries next es) ≡ bare_fields es
+  pub bare-numbered_entries : (next : ℕ) (es : Entries NewLabel) → bare_fields (numbered_entries next es) ≡ bare_fields es
   bare-numbered_entries next no_entries = refl
   bare-numbered_entries next (entry k x es) =
       let e : bare (numbered next x) ≡ bare x = bare-numbered next x in

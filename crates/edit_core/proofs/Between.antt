@@ -2,8 +2,8 @@
 use Rattle.std.proofs.Common.{◌≡◌, List, [], ◌∷◌, length, Bool, true, false, refl, sym, ◌∙◌, ap, subst}
 use Rattle.std.specs.Prelude.{if◌then◌else◌}
 use Rattle.snap_core.specs.Value.{Value}
-use Rattle.edit_core.specs.Labelled.{Label, Labelled, Entry, Branches, Entries, leaf, many, keyed, no_branches, branch, no_entries, entry, branches, items_in, entries, entries_in}
-use Rattle.edit_core.specs.Edit.{Edit, whole, Run}
+use Rattle.edit_core.specs.Labelled.{Label, Labelled, Branches, Entries, leaf, many, keyed, no_branches, branch, no_entries, entry, branches, items_in, entries, entries_in}
+use Rattle.edit_core.specs.Edit.{Edit, whole, LeadInTurn}
 use Rattle.edit_core.specs.Comparing.{is_equal, same_label}
 use Rattle.edit_core.specs.Between.{values, entries_of, item_edits, entry_edits, leaf_edits, array_edits, record_edits, edits_between, olds_in, old_entries_in}
 use Rattle.edit_core.proofs.Equal.{equal-is, label-is}
@@ -97,5 +97,5 @@ module _ (C : Conditions) where
     old_entries-good no_entries fine = tt
     old_entries-good (entry k x es) fine = (λ n g. between-runs_in x n fine.0 g, old_entries-good es fine.1)
 
-pub between-runs : (old new : Labelled) → Run old (edits_between old new) new
+pub between-runs : (old new : Labelled) → LeadInTurn old (edits_between old new) new
 between-runs old new = run-in free old new (edits_between old new) (between-runs_in free old new (fine-free old) (fine-free new))

@@ -1,10 +1,10 @@
 -- Which numbers stand in a template once its new ones are drawn.
-use Rattle.std.proofs.Common.{◌≡◌, ℕ, zero, suc, ◌+◌, ◌<◌, ◌≤◌, Bool, true, false, Option, Some, None, refl, sym, ◌∙◌, ap, arith, inl, inr}
+use Rattle.std.proofs.Common.{◌≡◌, ℕ, zero, suc, ◌+◌, ◌<◌, ◌≤◌, Option, Some, None, refl, sym, ◌∙◌, ap, arith, inl, inr}
 use Rattle.std.specs.Prelude.{◌==◌}
 use Rattle.std.proofs.Math.Nat.{zero-add, add-zero, suc-add}
-use Rattle.std.proofs.lemmas.Bool.Decides.{Decides-eqb, eqb_tells}
+use Rattle.std.proofs.lemmas.Bool.Decides.{eqb_tells}
 use Rattle.edit_core.specs.declared.kind.Kind.{Kind}
-use Rattle.edit_core.specs.Labelled.{Label, Labelled, Annotated, Branches, Entries, leaf, many, keyed, no_branches, branch, no_entries, entry}
+use Rattle.edit_core.specs.Labelled.{Branches, Entries, leaf, many, keyed, no_branches, branch, no_entries, entry}
 use Rattle.edit_core.specs.Template.{NewLabel, Template, drawn, draws, new_count, new_count_items, new_count_entries, numbered, numbered_items, numbered_entries}
 use Rattle.edit_core.specs.Numbers.{one_where, times, times_in_items, times_in_entries}
 

@@ -1,5 +1,5 @@
 -- Reconciling, computed on examples: an office with todos and users.
-use Rattle.std.proofs.Common.{◌≡◌, ℕ, List, [], ◌∷◌, ◌++◌, map, Bool, false, Option, Some, None, pos, decimal, refl}
+use Rattle.std.proofs.Common.{◌≡◌, ℕ, List, [], ◌∷◌, map, false, Option, Some, None, pos, decimal, refl}
 use Rattle.std.specs.Prelude.{codes, ◌==◌, if◌then◌else◌}
 use Rattle.std.specs.Str.{bytes_eq}
 use Rattle.snap_core.specs.Value.{Value, null, boolean, integer, text, list, dict, no_parts, part, no_members, member, Items, Fields}
@@ -9,9 +9,9 @@ use Rattle.patch_core.specs.declared.patch.Patch.{Patch}
 use Rattle.patch_core.specs.declared.patch.PatchOp.TheVariants.{Add, Replace, Remove}
 use Rattle.edit_core.specs.declared.kind.Kind.{Kind}
 use Rattle.edit_core.specs.declared.kind.Kind.TheVariants.{Model, Array, Map}
-use Rattle.edit_core.specs.Labelled.{Label, Labelled, leaf, many, keyed, entry, no_entries, branch, no_branches, items_in}
-use Rattle.edit_core.specs.Rules.{Rules}
-use Rattle.edit_core.specs.Matching.{first_matching}
+use Rattle.edit_core.specs.Labelled.{Labelled, many, keyed, entry, items_in}
+use Rattle.edit_core.specs.Typing.{Typing}
+use Rattle.edit_core.specs.Matching.{by_first}
 use Rattle.edit_core.specs.Template.{template, numbered}
 use Rattle.edit_core.specs.Plain.{patch_of}
 use Rattle.edit_core.specs.Reconciling.{Written, reconciled}
@@ -49,8 +49,8 @@ part_type (Model m) key = property_type m.0 key
 part_type (Array t) key = t.0
 part_type (Map t) key = t.0
 
-abbrev rules : Rules
-rules = record {
+abbrev typing : Typing
+typing = record {
   kind_of = λ t v. kind_at t;
   type_under = part_type;
   identifier_of = λ m. if m.0 == 0 then None else Some (codes "id");
@@ -72,10 +72,10 @@ office todos users = dict tt (member (codes "count") (integer (pos 0)) (member (
 
 -- a new document, with its nodes numbered in document order
 abbrev labelled : Value → Labelled
-labelled v = numbered 0 (template rules (first_matching rules) 0 None v)
+labelled v = numbered 0 (template (by_first typing) 0 None v)
 
 abbrev after : ℕ → Value → Value → Written
-after next old new = reconciled rules (first_matching rules) next 0 (labelled old) new
+after next old new = reconciled (by_first typing) (record { type = 0; old = labelled old; new = new; next = next })
 
 abbrev patches : Written → List Patch
 patches w = map patch_of w.edits
@@ -92,7 +92,7 @@ replaced path old new = record { op = Replace; path = path; value = Some (snap_o
 abbrev ann : Fields
 ann = member (codes "u1") (user (codes "u1") (codes "Ann")) no_members
 
--- Two todos change places and one its title: it is edited where it stands, then both are removed, the last one
+-- Two todos change places and one its title: it is after_edit where it stands, then both are removed, the last one
 -- first, and added in their new order.
 call : List ℕ → Value
 call title = todo (codes "t1") (text (codes "u1")) title
@@ -133,7 +133,7 @@ unchanged-patches : patches unchanged ≡ []
 unfolding unchanged call post todo user office
 unchanged-patches = refl
 
--- where the todos are the same at each index, they are edited there
+-- where the todos are the same at each index, they are after_edit there
 retitled : Written
 retitled = after 7 (office (call (codes "Call") ∷ post ∷ []) ann) (office (call (codes "Call Bob") ∷ post ∷ []) ann)
 
@@ -157,7 +157,7 @@ grown-numbers : (grown.next ∷ todo_numbers grown.value) ≡ 7 ∷ 6 ∷ 3 ∷ 
 unfolding grown call post todo user office
 grown-numbers = refl
 
--- in a map: what is held is edited and what is new is added, by ascending keys, and then the others are removed
+-- in a map: what is held is after_edit and what is new is added, by ascending keys, and then the others are removed
 users : Written
 users = after 6
     (office [] (member (codes "u1") (user (codes "u1") (codes "Ann")) (member (codes "u2") (user (codes "u2") (codes "Bea")) no_members)))

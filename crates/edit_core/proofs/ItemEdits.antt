@@ -1,20 +1,20 @@
 -- The array rule leads from the old items to the new ones.
-use Rattle.std.proofs.Common.{◌≡◌, ◌+◌, ◌≤◌, List, [], ◌∷◌, ◌++◌, length, map, Bool, true, false, ◌&&◌, Option, Some, None, unwrap_or, refl, arith, length-append}
+use Rattle.std.proofs.Common.{◌≡◌, List, [], ◌∷◌, ◌++◌, length, map, Bool, true, false, Option, Some, None, unwrap_or, refl, arith, length-append}
 use Rattle.std.specs.Prelude.{if◌then◌else◌}
 use Rattle.std.specs.List.{find}
 use Rattle.edit_core.specs.Labelled.{Label, Labelled, many, branches}
-use Rattle.edit_core.specs.Edit.{Edit, within, at_item, add, remove, moved_to_item}
-use Rattle.edit_core.specs.Between.{Old, values, stays, all_stay, one_by_one, match_of, edits_to, becomes, edits_in_place, removals, additions, moved, item_edits}
+use Rattle.edit_core.specs.Edit.{within, at_item, add, remove, moved_to_item}
+use Rattle.edit_core.specs.Between.{OldPart, values, stays, all_stay, one_by_one, match_of, edits_to, becomes, edits_in_place, removals, additions, moved, item_edits}
 use Rattle.edit_core.proofs.Equal.{and-right}
 use Rattle.edit_core.proofs.Leading.{Conditions, FineIn, AllFine, one_item, RunIn, no_edits, one_edit}
 use Rattle.edit_core.proofs.Runs.{joined_in, one, lifted, shifted}
 
 module _ (C : Conditions) where
   -- the edits of an old part lead from it to each new value
-  abbrev pub IsGood : Old → Type 0
+  abbrev pub IsGood : OldPart → Type 0
   IsGood o = (n : Labelled) → FineIn C n → RunIn C o.value (o.edits n) n
 
-  abbrev pub AreGood : List Old → Type 0
+  abbrev pub AreGood : List OldPart → Type 0
   AreGood [] = Unit {0}
   AreGood (o ∷ os) = IsGood o × AreGood os
 
@@ -27,7 +27,7 @@ module _ (C : Conditions) where
       C.fewer (length ((done ++ y ∷ []) ++ xs)) (length (done ++ x ∷ xs))
       (omega (arith, length-append done (x ∷ xs), length-append (done ++ y ∷ []) xs, length-append done (y ∷ []))) h
 
-  pub one_by_one-runs : (l : Label) (done : List Labelled) (olds : List Old) (news : List Labelled) → C.index (length (done ++ values olds)) → AreGood olds → AllFine C news → all_stay olds news ≡ true
+  pub one_by_one-runs : (l : Label) (done : List Labelled) (olds : List OldPart) (news : List Labelled) → C.index (length (done ++ values olds)) → AreGood olds → AllFine C news → all_stay olds news ≡ true
       → RunIn C (many l (branches (done ++ values olds))) (one_by_one done olds news) (many l (branches (done ++ news)))
   one_by_one-runs l done [] [] i good fine same = no_edits _
   one_by_one-runs l done [] (n ∷ ns) i good fine same = cc
@@ -46,11 +46,11 @@ module _ (C : Conditions) where
   find-fine p [] fine = tt
   find-fine p (n ∷ ns) fine = elim (p n) as (λ b. IfFine (if b then Some n else find p ns)) [ true ↦ fine.0 | false ↦ find-fine p ns fine.1 ]
 
-  edits_to-runs : (o : Old) (m : Option Labelled) → IsGood o → IfFine m → RunIn C o.value (edits_to o m) (unwrap_or m o.value)
+  edits_to-runs : (o : OldPart) (m : Option Labelled) → IsGood o → IfFine m → RunIn C o.value (edits_to o m) (unwrap_or m o.value)
   edits_to-runs o (Some n) good fine = good n fine
   edits_to-runs o None good fine = no_edits o.value
 
-  pub in_place-runs : (l : Label) (done : List Labelled) (olds : List Old) (news : List Labelled) → C.index (length (done ++ values olds)) → AreGood olds → AllFine C news
+  pub in_place-runs : (l : Label) (done : List Labelled) (olds : List OldPart) (news : List Labelled) → C.index (length (done ++ values olds)) → AreGood olds → AllFine C news
       → RunIn C (many l (branches (done ++ values olds))) (edits_in_place done olds news) (many l (branches (done ++ map (λ o. becomes o news) olds)))
   in_place-runs l done [] news i good fine = no_edits _
   in_place-runs l done (o ∷ os) news i good fine =
@@ -73,11 +73,11 @@ module _ (C : Conditions) where
       one_edit _ (many l (branches (before ++ x ∷ []))) _ _ _ (one_item l before [] (add x) (index-done before x xs i))
       (shifted C l before x [] xs (additions (before ++ x ∷ []) xs) (additions-run l (before ++ x ∷ []) xs (index-next before x x xs i)))
 
-  length-becomes : (olds : List Old) (news : List Labelled) → length (map (λ o. becomes o news) olds) ≡ length (values olds)
+  length-becomes : (olds : List OldPart) (news : List Labelled) → length (map (λ o. becomes o news) olds) ≡ length (values olds)
   length-becomes [] news = refl
   length-becomes (o ∷ os) news = omega (arith, length-becomes os news)
 
-  pub moved-runs : (l : Label) (olds : List Old) (news : List Labelled) → C.index (length (values olds)) → C.index (length news) → AreGood olds → AllFine C news
+  pub moved-runs : (l : Label) (olds : List OldPart) (news : List Labelled) → C.index (length (values olds)) → C.index (length news) → AreGood olds → AllFine C news
       → RunIn C (many l (branches (values olds))) (moved olds news) (many l (branches news))
   moved-runs l olds news i j good fine =
       joined_in C _ _ _ (edits_in_place [] olds news) (removals [] (map (λ o. becomes o news) olds) ++ additions [] news)
@@ -86,7 +86,7 @@ module _ (C : Conditions) where
       (removals-run l [] (map (λ o. becomes o news) olds) (C.fewer _ (length (values olds)) (omega (arith, length-becomes olds news)) i))
       (additions-run l [] news j))
 
-  pub item_edits-run : (l : Label) (olds : List Old) (news : List Labelled) → C.index (length (values olds)) → C.index (length news) → AreGood olds → AllFine C news
+  pub item_edits-run : (l : Label) (olds : List OldPart) (news : List Labelled) → C.index (length (values olds)) → C.index (length news) → AreGood olds → AllFine C news
       → RunIn C (many l (branches (values olds))) (item_edits olds news) (many l (branches news))
   item_edits-run l olds news i j good fine = go (all_stay olds news) refl where
     go : (b : Bool) → all_stay olds news ≡ b → RunIn C (many l (branches (values olds))) (if b then one_by_one [] olds news else moved olds news) (many l (branches news))

@@ -1,9 +1,9 @@
 -- Edits that lead from one labelled snapshot to another, where something is asked of each array and record on the way.
-use Rattle.std.proofs.Common.{◌≡◌, ℕ, ◌≤◌, List, [], ◌∷◌, ◌++◌, length}
+use Rattle.std.proofs.Common.{ℕ, ◌≤◌, List, [], ◌∷◌, ◌++◌, length}
 use Rattle.edit_core.specs.Labelled.{Label, Labelled, Entry, Branches, Entries, leaf, many, keyed, no_branches, branch, no_entries, entry, branches, entries, items_in, entries_in}
-use Rattle.edit_core.specs.Edit.{Edit, Step, Change, Operation, whole, within, item, at_item, at_entry, old_in, new_in, under, Leads, Run}
+use Rattle.edit_core.specs.Edit.{Edit, Turn, Change, Operation, whole, within, to_item, to_entry, at_item, at_entry, old_in, new_in, entries_at, Leads, LeadInTurn}
 use Rattle.edit_core.specs.Edit as edit
-use Rattle.edit_core.specs.Between.{Old, entries_of, parted}
+use Rattle.edit_core.specs.Between.{OldPart, entries_of, parted}
 
 -- What is asked of an array's length and of a record's entries, so that it holds all along where it holds at both ends.
 pub record Conditions : Type 1 where
@@ -14,7 +14,7 @@ pub record Conditions : Type 1 where
   pub fewer_keys : (xs ys zs : List Entry) → keys (xs ++ (ys ++ zs)) → keys (xs ++ zs)
   pub other : (xs zs : List Entry) (k : List ℕ) (x y : Labelled) → keys (xs ++ (k, x) ∷ zs) → keys (xs ++ (k, y) ∷ zs)
   -- with a new entry put among old ones
-  pub set : (done : List Entry) (n : Entry) (olds : List (List ℕ × Old)) (ns : List Entry) → keys (done ++ entries_of olds) → keys (done ++ n ∷ ns)
+  pub set : (done : List Entry) (n : Entry) (olds : List (List ℕ × OldPart)) (ns : List Entry) → keys (done ++ entries_of olds) → keys (done ++ n ∷ ns)
       → keys ((done ++ entries_of (parted n.0 olds).below) ++ n ∷ entries_of (parted n.0 olds).above)
       × keys (((done ++ entries_of (parted n.0 olds).below) ++ n ∷ []) ++ ns)
 
@@ -47,16 +47,16 @@ pub data LeadsIn (C : Conditions) : Labelled → Edit → Labelled → Type 0 wh
       → LeadsIn C (many label (branches (before ++ (old_in op ++ after)))) (within [] (at_item before op after))
       (many label (branches (before ++ (new_in op ++ after))))
   one_entry : (label : Label) (before after : List Entry) (key : List ℕ) (op : Operation)
-      → C.keys (before ++ (under key (old_in op) ++ after)) → C.keys (before ++ (under key (new_in op) ++ after))
-      → LeadsIn C (keyed label (entries (before ++ (under key (old_in op) ++ after)))) (within [] (at_entry before key op after))
-      (keyed label (entries (before ++ (under key (new_in op) ++ after))))
-  in_item : (label : Label) (before after : List Labelled) (x y : Labelled) (way : List Step) (change : Change) → C.index (length before)
+      → C.keys (before ++ (entries_at key (old_in op) ++ after)) → C.keys (before ++ (entries_at key (new_in op) ++ after))
+      → LeadsIn C (keyed label (entries (before ++ (entries_at key (old_in op) ++ after)))) (within [] (at_entry before key op after))
+      (keyed label (entries (before ++ (entries_at key (new_in op) ++ after))))
+  in_item : (label : Label) (before after : List Labelled) (x y : Labelled) (way : List Turn) (change : Change) → C.index (length before)
       → LeadsIn C x (within way change) y
-      → LeadsIn C (many label (branches (before ++ x ∷ after))) (within (item (length before) ∷ way) change)
+      → LeadsIn C (many label (branches (before ++ x ∷ after))) (within (to_item (length before) ∷ way) change)
       (many label (branches (before ++ y ∷ after)))
-  in_entry : (label : Label) (before after : List Entry) (key : List ℕ) (x y : Labelled) (way : List Step) (change : Change) → C.keys (before ++ (key, x) ∷ after)
+  in_entry : (label : Label) (before after : List Entry) (key : List ℕ) (x y : Labelled) (way : List Turn) (change : Change) → C.keys (before ++ (key, x) ∷ after)
       → LeadsIn C x (within way change) y
-      → LeadsIn C (keyed label (entries (before ++ (key, x) ∷ after))) (within (edit.entry (length before) key ∷ way) change)
+      → LeadsIn C (keyed label (entries (before ++ (key, x) ∷ after))) (within (to_entry (length before) key ∷ way) change)
       (keyed label (entries (before ++ (key, y) ∷ after)))
 
 pub data RunIn (C : Conditions) : Labelled → List Edit → Labelled → Type 0 where
@@ -70,7 +70,7 @@ leads-in C x y e (one_entry l before after key op p q) = edit.one_entry l before
 leads-in C x y e (in_item l before after v w way change i lead) = edit.in_item l before after v w way change (leads-in C v w (within way change) lead)
 leads-in C x y e (in_entry l before after key v w way change p lead) = edit.in_entry l before after key v w way change (leads-in C v w (within way change) lead)
 
-pub run-in : (C : Conditions) (x y : Labelled) (es : List Edit) → RunIn C x es y → Run x es y
+pub run-in : (C : Conditions) (x y : Labelled) (es : List Edit) → RunIn C x es y → LeadInTurn x es y
 run-in C x y es (no_edits w) = edit.no_edits w
 run-in C x y es (one_edit a b c e rest lead run) = edit.one_edit a b c e rest (leads-in C a b e lead) (run-in C b c rest run)
 

@@ -17,3 +17,9 @@ pub mod Examples
 pub mod Drawing
 pub mod Keeping
 pub mod Numbering
+pub mod Unchanged
+pub mod Labelling
+pub mod RuleLinks
+pub mod RuleMatching
+pub mod RuleItems
+pub mod RuleFields

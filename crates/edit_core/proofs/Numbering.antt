@@ -1,27 +1,26 @@
 -- The numbers of a written value.
-use Rattle.std.proofs.Common.{◌≡◌, ℕ, ◌+◌, ◌<◌, ◌≤◌, List, [], ◌∷◌, map, Bool, true, false, Option, Some, None, refl, sym, ◌∙◌, ap, inl, inr, arith}
-use Rattle.std.specs.Prelude.{sum_by, ◌&&◌, if◌then◌else◌}
+use Rattle.std.proofs.Common.{◌≡◌, ℕ, ◌+◌, ◌≤◌, List, [], ◌∷◌, map, Bool, true, false, Option, Some, None, refl, sym, ◌∙◌, ap, inl, inr, arith}
+use Rattle.std.specs.Prelude.{sum_by, if◌then◌else◌}
 use Rattle.std.proofs.lemmas.Bool.{cases_lt}
 use Rattle.std.proofs.lemmas.List.Sums.{sum_by-cons}
 use Rattle.snap_core.specs.Value.{Value, IsOrdered}
 use Rattle.edit_core.specs.Labelled.{Labelled}
-use Rattle.edit_core.specs.Rules.{Rules, Matching}
-use Rattle.edit_core.specs.Matching.{Slot, is_open, taken, all_taken, open_slot, pairwise, matched, first_matching, is_same}
+use Rattle.edit_core.specs.Typing.{Typing, Rules, seen}
+use Rattle.edit_core.specs.Matching.{Slot, taken, all_taken, open_slot, pairwise, matched, first_matching, same_item}
 use Rattle.edit_core.specs.Template.{Template, template, new_count}
-use Rattle.edit_core.specs.Reconciling.{Written, reconciled}
-use Rattle.edit_core.specs.Numbers.{times, AreNumbered, matched_sum, MatchesOnce, HasNumbers}
+use Rattle.edit_core.specs.Reconciling.{Setting, Written, reconciled}
+use Rattle.edit_core.specs.Numbers.{AreNumbered, matched_sum, MatchesOnce, HasNumbers}
 use Rattle.edit_core.specs.Laws.{IsWellNumbered}
-use Rattle.edit_core.proofs.Drawing.{kept_times, among, among-below, among-within, among-above, drawn-times}
+use Rattle.edit_core.proofs.Drawing.{among-below, among-within, among-above, drawn-times}
 use Rattle.edit_core.proofs.Keeping.{template-times}
 
-pub has-numbers : (r : Rules) (matching : Matching) (next t : ℕ) (old : Labelled) (new : Value) → MatchesOnce matching → IsOrdered new → AreNumbered next old
-    → HasNumbers next old (reconciled r matching next t old new)
-has-numbers r matching next t old new once ordered numbered =
-    let made : Template = template r matching t (Some old) new in
+pub has-numbers : (r : Rules) (s : Setting) → MatchesOnce r.matching → IsOrdered s.new → AreNumbered s.next s.old → HasNumbers s.next s.old (reconciled r s)
+has-numbers r s once ordered numbered =
+    let made : Template = template r s.type (Some s.old) s.new in
     record {
-      kept = λ n low. omega (arith, drawn-times n next made, template-times r matching once n t (Some old) new ordered, among-below n next (new_count made) low);
-      drawn = λ n low high. omega (arith, drawn-times n next made, template-times r matching once n t (Some old) new ordered, numbered.below n low, among-within n next (new_count made) low high);
-      none = λ n high. omega (arith, drawn-times n next made, template-times r matching once n t (Some old) new ordered, numbered.below n (omega arith), among-above n next (new_count made) high);
+      kept = λ n low. omega (arith, drawn-times n s.next made, template-times r once n s.type (Some s.old) s.new ordered, among-below n s.next (new_count made) low);
+      drawn = λ n low high. omega (arith, drawn-times n s.next made, template-times r once n s.type (Some s.old) s.new ordered, numbered.below n low, among-within n s.next (new_count made) low high);
+      none = λ n high. omega (arith, drawn-times n s.next made, template-times r once n s.type (Some s.old) s.new ordered, numbered.below n (omega arith), among-above n s.next (new_count made) high);
     }
 
 pub numbered-again : (next : ℕ) (old : Labelled) (w : Written) → AreNumbered next old → HasNumbers next old w → AreNumbered w.next w.value
@@ -36,7 +35,7 @@ numbered-again next old w numbered has = record {
 -- matching by the first that is the same uses each old item once
 
 module _ (f : Labelled → ℕ) where
-  abbrev slots_sum : List Slot → ℕ
+  abbrev pub slots_sum : List Slot → ℕ
   slots_sum slots = matched_sum f (map (λ slot. slot.old) slots)
 
   open-sum : (news : List Value) → slots_sum (map open_slot news) ≡ 0
@@ -48,7 +47,7 @@ module _ (f : Labelled → ℕ) where
   all-sum (x ∷ xs) = ap (λ s. f x + s) (all-sum xs) ∙ sym (sum_by-cons f x xs)
 
   module _ (same : Labelled → Value → Bool) where
-    taken-sum : (old : Labelled) (slots : List Slot) → slots_sum (taken same old slots) ≤ f old + slots_sum slots
+    pub taken-sum : (old : Labelled) (slots : List Slot) → slots_sum (taken same old slots) ≤ f old + slots_sum slots
     taken-sum old [] = omega arith
     taken-sum old (slot ∷ slots) = go slot.new slot.old (taken-sum old slots) where
       go : (new : Value) (held : Option Labelled) → slots_sum (taken same old slots) ≤ f old + slots_sum slots
@@ -71,11 +70,10 @@ module _ (f : Labelled → ℕ) where
           | false ↦ omega (arith, all_taken-sum olds (map open_slot news), open-sum news)
         ]
 
-pub first-once : (r : Rules) → MatchesOnce (first_matching r)
-first-once r t olds news f = matched-sum f (is_same r t) olds news
+pub first-once : (r : Typing) → MatchesOnce (first_matching r)
+first-once r t olds news f = matched-sum f (λ o n. same_item r t (seen o) n) olds news
 
-pub numbering : (r : Rules) (matching : Matching) (next t : ℕ) (old : Labelled) (new : Value) → MatchesOnce matching → IsOrdered new → AreNumbered next old
-    → IsWellNumbered next old (reconciled r matching next t old new)
-numbering r matching next t old new once ordered numbered =
-    let has : HasNumbers next old (reconciled r matching next t old new) = has-numbers r matching next t old new once ordered numbered in
-    record { numbers = has; again = numbered-again next old (reconciled r matching next t old new) numbered has }
+pub numbering : (r : Rules) (s : Setting) → MatchesOnce r.matching → IsOrdered s.new → AreNumbered s.next s.old → IsWellNumbered s.next s.old (reconciled r s)
+numbering r s once ordered numbered =
+    let has : HasNumbers s.next s.old (reconciled r s) = has-numbers r s once ordered numbered in
+    record { numbers = has; again = numbered-again s.next s.old (reconciled r s) numbered has }

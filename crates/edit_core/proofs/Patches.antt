@@ -1,23 +1,19 @@
 -- Edits are patches without labels: each fits the plain value, and makes of it what the edit leads to.
-use Rattle.std.proofs.Common.{◌≡◌, ℕ, ◌<◌, ◌^◌, List, [], ◌∷◌, ◌++◌, length, map, Option, Some, None, Result, Ok, decimal, refl, sym, ◌∙◌, ap, subst}
-use Rattle.std.specs.Prelude.{unwrap_or}
+use Rattle.std.proofs.Common.{◌≡◌, ℕ, ◌<◌, ◌^◌, List, [], ◌∷◌, ◌++◌, length, map, Option, Some, None, Ok, decimal, refl, ◌∙◌, ap, subst}
 use Rattle.std.specs.Option.{option_map}
 use Rattle.snap_core.specs.Value.{Value, null, list, dict}
-use Rattle.snap_core.specs.View.{view}
-use Rattle.snap_core.specs.Unview.{snap_of}
 use Rattle.snap_core.specs.Level.{Step, at_index, at_key, child, set_child}
 use Rattle.snap_core.proofs.Views.{view-snap_of}
 use Rattle.pointer_core.specs.Path.{Path}
 use Rattle.pointer_core.proofs.Indices.{index_of_decimal}
 use Rattle.patch_core.specs.Place.{step_of}
-use Rattle.patch_core.specs.Application.{changed, written, applied}
-use Rattle.patch_core.specs.Fits.{HasValues, FitsPart, FitsAt, Fits, LeadsTo}
-use Rattle.patch_core.specs.declared.patch.Patch.{Patch}
+use Rattle.patch_core.specs.Application.{changed, applied}
+use Rattle.patch_core.specs.Fits.{FitsAt, Fits, LeadsTo}
 use Rattle.patch_core.specs.declared.patch.PatchOp.{PatchOp}
 use Rattle.patch_core.specs.declared.patch.PatchOp.TheVariants.{Add, Replace, Remove}
 use Rattle.patch_core.proofs.Steps.{part_under-at, edited-add, edited-replace, edited-remove}
-use Rattle.edit_core.specs.Labelled.{Label, Labelled, Entry, many, keyed, branches, entries, bare}
-use Rattle.edit_core.specs.Edit.{Edit, Change, Operation, add, remove, replace, at_item, at_entry, item, whole, within, old_in, new_in, under}
+use Rattle.edit_core.specs.Labelled.{Labelled, Entry, bare}
+use Rattle.edit_core.specs.Edit.{Edit, Change, Operation, add, remove, replace, at_item, at_entry, whole, within, old_in, new_in, entries_at}
 use Rattle.edit_core.specs.Edit as edit
 use Rattle.edit_core.specs.Plain.{token_of, path_to, place_token, operation_in, patch_at, patch_of}
 use Rattle.edit_core.proofs.Leading.{LeadsIn, replaced, one_item, one_entry, in_item, in_entry, RunIn, no_edits, one_edit}
@@ -67,8 +63,8 @@ at-item before after (replace old new) i =
       leads = edited-replace (decimal (length before)) (at_index (length before)) (bare new) s (bare old) is (item-stands before after old) ∙ ap (λ ps. Ok (list tt ps)) (item-set before after old new);
     }
 
-at-entry : (before after : List Entry) (key : List ℕ) (op : Operation) → Ascend (before ++ (under key (old_in op) ++ after)) → Ascend (before ++ (under key (new_in op) ++ after))
-    → PatchLeads (key ∷ []) op (dict tt (plain_fields (before ++ (under key (old_in op) ++ after)))) (dict tt (plain_fields (before ++ (under key (new_in op) ++ after))))
+at-entry : (before after : List Entry) (key : List ℕ) (op : Operation) → Ascend (before ++ (entries_at key (old_in op) ++ after)) → Ascend (before ++ (entries_at key (new_in op) ++ after))
+    → PatchLeads (key ∷ []) op (dict tt (plain_fields (before ++ (entries_at key (old_in op) ++ after)))) (dict tt (plain_fields (before ++ (entries_at key (new_in op) ++ after))))
 at-entry before after key (add new) p q =
     record {
       fits = (at_key key, refl, entry-absent before after key new q);
@@ -96,7 +92,7 @@ deeper token next rest op s c d step is found inner = record {
 }
 
 -- the same for the path of a change, which is never empty
-deeper-path : (token : List ℕ) (way : List edit.Step) (change : Change) (s c d : Value) (step : Step) → step_of token s ≡ Some step → child step s ≡ Some c
+deeper-path : (token : List ℕ) (way : List edit.Turn) (change : Change) (s c d : Value) (step : Step) → step_of token s ≡ Some step → child step s ≡ Some c
     → PatchLeads (path_to way change) (operation_in change) c d → PatchLeads (token ∷ path_to way change) (operation_in change) s (set_child step d s)
 deeper-path token [] change s c d step is found inner = deeper token (place_token change) [] (operation_in change) s c d step is found inner
 deeper-path token (next ∷ way) change s c d step is found inner = deeper token (token_of next) (path_to way change) (operation_in change) s c d step is found inner

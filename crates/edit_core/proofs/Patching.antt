@@ -1,25 +1,21 @@
 -- The patches of reconciling lead to the new value at its place.
-use Rattle.std.proofs.Common.{◌≡◌, ℕ, ◌<◌, ◌≤◌, ◌^◌, List, [], ◌∷◌, ◌++◌, length, map, Some, refl, sym, ◌∙◌, ap, subst, arith, length-append}
-use Rattle.std.specs.declared.cmp.Ordering.TheVariants.{Less}
-use Rattle.std.specs.Prelude.{IsTrue}
+use Rattle.std.proofs.Common.{◌≡◌, ℕ, ◌<◌, ◌^◌, List, [], ◌∷◌, ◌++◌, length, map, refl, sym, ap, subst, arith, length-append}
 use Rattle.snap_core.specs.Value.{Value, ComesBefore, IsOrdered, AreOrdered, AreOrderedMembers, keys_of}
 use Rattle.snap_core.specs.Level.{count_of}
-use Rattle.snap_core.proofs.Finding.{key_cmp}
 use Rattle.patch_core.specs.Fits.{LeadsTo}
 use Rattle.patch_core.specs.declared.patch.Patch.{Patch}
 use Rattle.edit_core.specs.Labelled.{Label, Labelled, Entry, Branches, Entries, leaf, many, keyed, no_branches, branch, no_entries, entry, branches, entries, items_in, entries_in, bare, bare_items, bare_fields}
-use Rattle.edit_core.specs.Edit.{Edit, moved_to_item, moved_to_entry}
+use Rattle.edit_core.specs.Edit.{Edit}
 use Rattle.edit_core.specs.Around.{Around, in_array, in_record, filled, moved_out, standing_in, seen_from}
-use Rattle.edit_core.specs.Between.{stays, edits_between}
 use Rattle.edit_core.specs.Plain.{IsShort, AreShort, HoldShort, patch_of}
-use Rattle.edit_core.specs.Rules.{Rules, Matching}
-use Rattle.edit_core.specs.Reconciling.{Written, reconciled}
+use Rattle.edit_core.specs.Typing.{Rules}
+use Rattle.edit_core.specs.Reconciling.{Setting, Written, reconciled}
 use Rattle.edit_core.specs.Laws.{HasPaths, ReconcilingIsPatching}
 use Rattle.edit_core.proofs.Leading.{Conditions, FineIn, FineItems, FineEntries, RunIn}
 use Rattle.edit_core.proofs.Runs.{lifted, lifted_entry}
 use Rattle.edit_core.proofs.Between.{between-runs_in}
 use Rattle.edit_core.proofs.Ascending.{AllAfter, Ascend, after-further, spelled}
-use Rattle.edit_core.proofs.Patches.{AllWithin, patches-lead}
+use Rattle.edit_core.proofs.Patches.{patches-lead}
 use Rattle.edit_core.proofs.Within.{within-stays, within-outside}
 use Rattle.edit_core.proofs.Reconciling.{reconciled-leads}
 
@@ -33,7 +29,7 @@ after-plain : (k : List ℕ) (es : Entries Label) → ComesBefore k (keys_of (ba
 after-plain k no_entries before ordered = tt
 after-plain k (entry j x es) before ordered = (before, after-further k j (entries_in es) before (after-plain j es ordered.1 ordered.2))
 
-ascend-plain : (es : Entries Label) → AreOrderedMembers (bare_fields es) → Ascend (entries_in es)
+pub ascend-plain : (es : Entries Label) → AreOrderedMembers (bare_fields es) → Ascend (entries_in es)
 ascend-plain no_entries ordered = tt
 ascend-plain (entry k x es) ordered = (after-plain k es ordered.1 ordered.2, ascend-plain es ordered.2)
 
@@ -109,20 +105,20 @@ map-patches : (a : Around) (around : List Around) (es : List Edit) → map patch
 map-patches a around [] = refl
 map-patches a around (e ∷ es) = ap (λ ps. patch_of (seen_from (a ∷ around) e) ∷ ps) (map-patches a around es)
 
-pub patching : (r : Rules) (matching : Matching) (next t : ℕ) (old : Labelled) (new : Value) → ReconcilingIsPatching r matching next t old new
-patching r matching next t old new =
-    let w : Written = reconciled r matching next t old new in
-    let given : bare w.value ≡ new = (reconciled-leads r matching next t old new).given in
-    let fine-new : HasPaths new → FineIn spelled w.value = λ h. fine-paths w.value (subst HasPaths (sym given) h) in
+pub patching : (r : Rules) (s : Setting) → ReconcilingIsPatching s (reconciled r s)
+patching r s =
+    let w : Written = reconciled r s in
+    let given : bare w.value ≡ s.new = (reconciled-leads r s).given in
+    let fine-new : HasPaths s.new → FineIn spelled w.value = λ h. fine-paths w.value (subst HasPaths (sym given) h) in
     record {
       inside = λ a around before after.
-          let fine : FineIn spelled (standing_in (a ∷ around) old) = fine-paths (standing_in (a ∷ around) old) before in
-          let P : List Patch → Type 0 = λ ps. LeadsTo ps (bare (standing_in (a ∷ around) old)) (bare (standing_in (a ∷ around) w.value)) in
+          let fine : FineIn spelled (standing_in (a ∷ around) s.old) = fine-paths (standing_in (a ∷ around) s.old) before in
+          let P : List Patch → Type 0 = λ ps. LeadsTo ps (bare (standing_in (a ∷ around) s.old)) (bare (standing_in (a ∷ around) w.value)) in
           subst P (map-patches a around w.edits)
-          (patches-lead (standing_in (a ∷ around) old) (standing_in (a ∷ around) w.value) (map (seen_from (a ∷ around)) w.edits) (within-outside a around w.edits)
-          (seen-run spelled (a ∷ around) old w.value w.edits fine (between-runs_in spelled old w.value (fine-inside spelled (a ∷ around) old fine) (fine-new after))));
+          (patches-lead (standing_in (a ∷ around) s.old) (standing_in (a ∷ around) w.value) (map (seen_from (a ∷ around)) w.edits) (within-outside a around w.edits)
+          (seen-run spelled (a ∷ around) s.old w.value w.edits fine (between-runs_in spelled s.old w.value (fine-inside spelled (a ∷ around) s.old fine) (fine-new after))));
       at_root = λ before after same.
-          let P : Value → Type 0 = λ v. LeadsTo (map patch_of w.edits) (bare old) v in
+          let P : Value → Type 0 = λ v. LeadsTo (map patch_of w.edits) (bare s.old) v in
           subst P given
-          (patches-lead old w.value w.edits (within-stays old w.value same) (between-runs_in spelled old w.value (fine-paths old before) (fine-new after)));
+          (patches-lead s.old w.value w.edits (within-stays s.old w.value same) (between-runs_in spelled s.old w.value (fine-paths s.old before) (fine-new after)));
     }

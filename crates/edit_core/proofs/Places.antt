@@ -1,11 +1,11 @@
 -- One level of a labelled snapshot, without labels: what stands at a place, and what stands there after a change.
-use Rattle.std.proofs.Common.{◌≡◌, ℕ, ◌≤◌, List, [], ◌∷◌, ◌++◌, length, true, false, Some, None, refl, sym, ◌∙◌, ap, arith}
-use Rattle.std.specs.declared.cmp.Ordering.TheVariants.{Less, Equal, Greater}
+use Rattle.std.proofs.Common.{◌≡◌, ℕ, ◌≤◌, List, [], ◌∷◌, ◌++◌, length, true, false, Some, None, refl, ◌∙◌, ap, arith}
+use Rattle.std.specs.declared.cmp.Ordering.TheVariants.{Less, Greater}
 use Rattle.std.specs.Ordering.{ordering_reverse, is_lt}
 use Rattle.std.specs.Str.{bytes_eq}
 use Rattle.std.proofs.lemmas.Cmp.{nat_list_cmp_total}
 use Rattle.std.proofs.lemmas.Slice.Eq.{bytes_eq-Decides}
-use Rattle.snap_core.specs.Value.{Value, part, member, value_at, Items, Fields}
+use Rattle.snap_core.specs.Value.{part, member, value_at, Items, Fields}
 use Rattle.snap_core.specs.Level.{count_of, item_at, set_item, insert_item, remove_item, set_field, insert_field, remove_field}
 use Rattle.snap_core.proofs.Finding.{key_cmp, bytes_eq-Less, bytes_eq-unequal}
 use Rattle.edit_core.specs.Labelled.{Labelled, Entry, branches, entries, bare, bare_items, bare_fields}

@@ -1,11 +1,11 @@
 -- Edits one after the other, and edits of a part as edits of the whole.
-use Rattle.std.proofs.Common.{◌≡◌, ℕ, List, [], ◌∷◌, ◌++◌, length, map, sym, subst, append_assoc}
+use Rattle.std.proofs.Common.{ℕ, List, [], ◌∷◌, ◌++◌, length, map, subst, append_assoc}
 use Rattle.edit_core.specs.Labelled.{Label, Labelled, Entry, many, keyed, branches, entries}
-use Rattle.edit_core.specs.Edit.{Edit, Step, Change, Operation, whole, within, item, entry, at_item, at_entry, replace, Run, moved_to_item, moved_to_entry}
+use Rattle.edit_core.specs.Edit.{Edit, Turn, Change, Operation, whole, within, to_item, to_entry, at_item, at_entry, replace, LeadInTurn, moved_to_item, moved_to_entry}
 use Rattle.edit_core.specs.Edit as edit
 use Rattle.edit_core.proofs.Leading.{Conditions, LeadsIn, replaced, one_item, one_entry, in_item, in_entry, RunIn, no_edits, one_edit}
 
-pub joined : (x y z : Labelled) (es fs : List Edit) → Run x es y → Run y fs z → Run x (es ++ fs) z
+pub joined : (x y z : Labelled) (es fs : List Edit) → LeadInTurn x es y → LeadInTurn y fs z → LeadInTurn x (es ++ fs) z
 joined x y z es fs (edit.no_edits w) more = more
 joined x y z es fs (edit.one_edit a b c e rest lead run) more = edit.one_edit a b z e (rest ++ fs) lead (joined b c z rest fs run more)
 
@@ -23,8 +23,8 @@ module _ (C : Conditions) where
   placed l before after x y e i (replaced old new) = one_item l before after (replace old new) i
   placed l before after x y e i (one_item k b a op j) = in_item l before after _ _ [] (at_item b op a) i (one_item k b a op j)
   placed l before after x y e i (one_entry k b a key op p q) = in_item l before after _ _ [] (at_entry b key op a) i (one_entry k b a key op p q)
-  placed l before after x y e i (in_item k b a v w way change j lead) = in_item l before after _ _ (item (length b) ∷ way) change i (in_item k b a v w way change j lead)
-  placed l before after x y e i (in_entry k b a key v w way change p lead) = in_item l before after _ _ (entry (length b) key ∷ way) change i (in_entry k b a key v w way change p lead)
+  placed l before after x y e i (in_item k b a v w way change j lead) = in_item l before after _ _ (to_item (length b) ∷ way) change i (in_item k b a v w way change j lead)
+  placed l before after x y e i (in_entry k b a key v w way change p lead) = in_item l before after _ _ (to_entry (length b) key ∷ way) change i (in_entry k b a key v w way change p lead)
 
   pub lifted : (l : Label) (before after : List Labelled) (x y : Labelled) (es : List Edit) → C.index (length before) → RunIn C x es y
       → RunIn C (many l (branches (before ++ x ∷ after))) (map (moved_to_item before after) es) (many l (branches (before ++ y ∷ after)))
@@ -38,8 +38,8 @@ module _ (C : Conditions) where
   placed_entry l before after k x y e p (replaced old new) = one_entry l before after k (replace old new) p (C.other before after k old new p)
   placed_entry l before after k x y e p (one_item m b a op j) = in_entry l before after k _ _ [] (at_item b op a) p (one_item m b a op j)
   placed_entry l before after k x y e p (one_entry m b a key op q r) = in_entry l before after k _ _ [] (at_entry b key op a) p (one_entry m b a key op q r)
-  placed_entry l before after k x y e p (in_item m b a v w way change j lead) = in_entry l before after k _ _ (item (length b) ∷ way) change p (in_item m b a v w way change j lead)
-  placed_entry l before after k x y e p (in_entry m b a key v w way change q lead) = in_entry l before after k _ _ (entry (length b) key ∷ way) change p (in_entry m b a key v w way change q lead)
+  placed_entry l before after k x y e p (in_item m b a v w way change j lead) = in_entry l before after k _ _ (to_item (length b) ∷ way) change p (in_item m b a v w way change j lead)
+  placed_entry l before after k x y e p (in_entry m b a key v w way change q lead) = in_entry l before after k _ _ (to_entry (length b) key ∷ way) change p (in_entry m b a key v w way change q lead)
 
   pub lifted_entry : (l : Label) (before after : List Entry) (k : List ℕ) (x y : Labelled) (es : List Edit) → C.keys (before ++ (k, x) ∷ after) → RunIn C x es y
       → RunIn C (keyed l (entries (before ++ (k, x) ∷ after))) (map (moved_to_entry before k after) es) (keyed l (entries (before ++ (k, y) ∷ after)))

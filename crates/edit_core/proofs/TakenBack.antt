@@ -1,8 +1,8 @@
 -- The inverse of an edit leads back, and the inverses of many, last first.
-use Rattle.std.proofs.Common.{◌≡◌, ℕ, List, [], ◌∷◌, ◌++◌, map, reverse, refl, sym, ap, subst}
+use Rattle.std.proofs.Common.{List, [], ◌∷◌, map, sym, subst}
 use Rattle.std.proofs.lemmas.List.{reverse-append}
 use Rattle.edit_core.specs.Labelled.{Labelled}
-use Rattle.edit_core.specs.Edit.{Edit, Operation, add, remove, replace, whole, within, Leads, replaced, one_item, one_entry, in_item, in_entry, Run, no_edits, one_edit, inverse_operation, inverse_change, inverse_of}
+use Rattle.edit_core.specs.Edit.{Edit, add, remove, replace, within, Leads, replaced, one_item, one_entry, in_item, in_entry, LeadInTurn, no_edits, one_edit, inverse_change, inverse_of}
 use Rattle.edit_core.specs.Application.{back}
 use Rattle.edit_core.proofs.Runs.{joined}
 
@@ -17,9 +17,9 @@ back-one x y e (one_entry l before after key (replace old new)) = one_entry l be
 back-one x y e (in_item l before after v w way change lead) = in_item l before after w v way (inverse_change change) (back-one v w (within way change) lead)
 back-one x y e (in_entry l before after key v w way change lead) = in_entry l before after key w v way (inverse_change change) (back-one v w (within way change) lead)
 
-pub back-all : (x y : Labelled) (es : List Edit) → Run x es y → Run y (back es) x
+pub back-all : (x y : Labelled) (es : List Edit) → LeadInTurn x es y → LeadInTurn y (back es) x
 back-all x y es (no_edits w) = no_edits w
 back-all x y es (one_edit a b c e rest lead run) =
-    let P : List Edit → Type 0 = λ fs. Run c fs a in
+    let P : List Edit → Type 0 = λ fs. LeadInTurn c fs a in
     subst P (sym (reverse-append (inverse_of e ∷ []) (map inverse_of rest)))
     (joined c b a (back rest) (inverse_of e ∷ []) (back-all b c rest run) (one_edit b a a (inverse_of e) [] (back-one a b e lead) (no_edits a)))

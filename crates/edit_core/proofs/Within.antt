@@ -1,11 +1,11 @@
 -- Where a node stays, its edits are edits of its parts.
-use Rattle.std.proofs.Common.{◌≡◌, ℕ, List, [], ◌∷◌, ◌++◌, map, Bool, true, false, Option, Some, None}
+use Rattle.std.proofs.Common.{◌≡◌, ℕ, List, [], ◌∷◌, ◌++◌, map, true, false, Option, Some, None}
 use Rattle.std.specs.Prelude.{if◌then◌else◌}
-use Rattle.edit_core.specs.Labelled.{Label, Labelled, Entry, Branches, Entries, leaf, many, keyed, items_in, entries_in}
+use Rattle.edit_core.specs.Labelled.{Labelled, Entry, leaf, many, keyed, items_in, entries_in}
 use Rattle.edit_core.specs.Edit.{Edit, whole, within, moved_to_item, moved_to_entry}
 use Rattle.edit_core.specs.Around.{Around, in_array, in_record, moved_out, seen_from}
 use Rattle.edit_core.specs.Comparing.{is_equal, same_label}
-use Rattle.edit_core.specs.Between.{Old, values, entries_of, stays, all_stay, one_by_one, match_of, edits_to, becomes, edits_in_place, removals, additions, moved, item_edits, Parting, parted, edits_at, settings, united, cuts, cleared, entry_edits, edits_between, olds_in, old_entries_in}
+use Rattle.edit_core.specs.Between.{OldPart, values, entries_of, stays, all_stay, one_by_one, match_of, edits_to, becomes, edits_in_place, removals, additions, moved, item_edits, Parting, parted, edits_at, settings, united, cuts, cleared, entry_edits, edits_between, olds_in, old_entries_in}
 use Rattle.edit_core.proofs.Patches.{IsWithin, AllWithin}
 
 within-joined : (es fs : List Edit) → AllWithin es → AllWithin fs → AllWithin (es ++ fs)
@@ -28,14 +28,14 @@ within-entries : (before : List Entry) (key : List ℕ) (after : List Entry) (es
 within-entries before key after [] = tt
 within-entries before key after (e ∷ es) = (within-entry before key after e, within-entries before key after es)
 
-within-one_by_one : (done : List Labelled) (olds : List Old) (news : List Labelled) → AllWithin (one_by_one done olds news)
+within-one_by_one : (done : List Labelled) (olds : List OldPart) (news : List Labelled) → AllWithin (one_by_one done olds news)
 within-one_by_one done [] news = tt
 within-one_by_one done (o ∷ os) [] = tt
 within-one_by_one done (o ∷ os) (n ∷ ns) =
     within-joined (map (moved_to_item done (values os)) (o.edits n)) (one_by_one (done ++ n ∷ []) os ns)
     (within-items done (values os) (o.edits n)) (within-one_by_one (done ++ n ∷ []) os ns)
 
-within-in_place : (done : List Labelled) (olds : List Old) (news : List Labelled) → AllWithin (edits_in_place done olds news)
+within-in_place : (done : List Labelled) (olds : List OldPart) (news : List Labelled) → AllWithin (edits_in_place done olds news)
 within-in_place done [] news = tt
 within-in_place done (o ∷ os) news =
     within-joined (map (moved_to_item done (values os)) (edits_to o (match_of o news))) (edits_in_place (done ++ becomes o news ∷ []) os news)
@@ -49,20 +49,20 @@ within-additions : (before xs : List Labelled) → AllWithin (additions before x
 within-additions before [] = tt
 within-additions before (x ∷ xs) = (tt, within-additions (before ++ x ∷ []) xs)
 
-within-moved : (olds : List Old) (news : List Labelled) → AllWithin (moved olds news)
+within-moved : (olds : List OldPart) (news : List Labelled) → AllWithin (moved olds news)
 within-moved olds news =
     within-joined (edits_in_place [] olds news) (removals [] (map (λ o. becomes o news) olds) ++ additions [] news) (within-in_place [] olds news)
     (within-joined (removals [] (map (λ o. becomes o news) olds)) (additions [] news) (within-removals [] (map (λ o. becomes o news) olds)) (within-additions [] news))
 
-within-item_edits : (olds : List Old) (news : List Labelled) → AllWithin (item_edits olds news)
+within-item_edits : (olds : List OldPart) (news : List Labelled) → AllWithin (item_edits olds news)
 within-item_edits olds news =
     elim (all_stay olds news) as (λ b. AllWithin (if b then one_by_one [] olds news else moved olds news)) [ true ↦ within-one_by_one [] olds news | false ↦ within-moved olds news ]
 
-within-at : (before : List Entry) (key : List ℕ) (held : Option Old) (new : Labelled) (after : List Entry) → AllWithin (edits_at before key held new after)
+within-at : (before : List Entry) (key : List ℕ) (held : Option OldPart) (new : Labelled) (after : List Entry) → AllWithin (edits_at before key held new after)
 within-at before key (Some old) new after = within-entries before key after (old.edits new)
 within-at before key None new after = (tt, tt)
 
-within-settings : (done : List Entry) (olds : List (List ℕ × Old)) (news : List Entry) → AllWithin (settings done olds news)
+within-settings : (done : List Entry) (olds : List (List ℕ × OldPart)) (news : List Entry) → AllWithin (settings done olds news)
 within-settings done olds [] = tt
 within-settings done olds (n ∷ ns) =
     let p : Parting = parted n.0 olds in
@@ -74,14 +74,14 @@ within-cuts : (before es after : List Entry) → AllWithin (cuts before es after
 within-cuts before [] after = tt
 within-cuts before (e ∷ es) after = (tt, within-cuts before es after)
 
-within-cleared : (done : List Entry) (olds : List (List ℕ × Old)) (news : List Entry) → AllWithin (cleared done olds news)
+within-cleared : (done : List Entry) (olds : List (List ℕ × OldPart)) (news : List Entry) → AllWithin (cleared done olds news)
 within-cleared done olds [] = within-cuts done (entries_of olds) []
 within-cleared done olds (n ∷ ns) =
     let p : Parting = parted n.0 olds in
     within-joined (cuts done (entries_of p.below) (n ∷ united p.above ns)) (cleared (done ++ n ∷ []) p.above ns)
     (within-cuts done (entries_of p.below) (n ∷ united p.above ns)) (within-cleared (done ++ n ∷ []) p.above ns)
 
-within-entry_edits : (olds : List (List ℕ × Old)) (news : List Entry) → AllWithin (entry_edits olds news)
+within-entry_edits : (olds : List (List ℕ × OldPart)) (news : List Entry) → AllWithin (entry_edits olds news)
 within-entry_edits olds news = within-joined (settings [] olds news) (cleared [] olds news) (within-settings [] olds news) (within-cleared [] olds news)
 
 -- where the node stays

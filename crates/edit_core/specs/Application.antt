@@ -1,12 +1,11 @@
 -- The labelled snapshot after an edit.
 use Rattle.std.specs.Prelude.{ℕ, zero, suc, List, [], ◌∷◌, ◌++◌, map, reverse}
 use Rattle.edit_core.specs.Labelled.{Label, Labelled, Branches, Entries, many, keyed, no_branches, branch, no_entries, entry, branches, entries}
-use Rattle.edit_core.specs.Edit.{Edit, Change, Step, at_item, at_entry, whole, within, item, new_in, under, Leads, inverse_of}
-use Rattle.edit_core.specs.Edit as step
+use Rattle.edit_core.specs.Edit.{Edit, Change, Turn, at_item, at_entry, whole, within, to_item, to_entry, new_in, entries_at, Leads, inverse_of}
 
 abbrev pub after_change : Change → Labelled → Labelled
 after_change (at_item before op after) (many l bs) = many l (branches (before ++ (new_in op ++ after)))
-after_change (at_entry before key op after) (keyed l es) = keyed l (entries (before ++ (under key (new_in op) ++ after)))
+after_change (at_entry before key op after) (keyed l es) = keyed l (entries (before ++ (entries_at key (new_in op) ++ after)))
 after_change change x = x
 
 -- the items with that at an index changed
@@ -22,29 +21,29 @@ entry_changed zero change (entry k x es) = entry k (change x) es
 entry_changed (suc i) change (entry k x es) = entry k x (entry_changed i change es)
 
 -- the node at the end of a way with its parts changed
-abbrev pub after_within : List Step → Change → Labelled → Labelled
+abbrev pub after_within : List Turn → Change → Labelled → Labelled
 after_within [] change x = after_change change x
-after_within (item i ∷ way) change (many l bs) = many l (item_changed i (after_within way change) bs)
-after_within (step.entry i key ∷ way) change (keyed l es) = keyed l (entry_changed i (after_within way change) es)
-after_within (s ∷ way) change x = x
+after_within (to_item i ∷ way) change (many l bs) = many l (item_changed i (after_within way change) bs)
+after_within (to_entry i key ∷ way) change (keyed l es) = keyed l (entry_changed i (after_within way change) es)
+after_within (turn ∷ way) change x = x
 
 -- the labelled snapshot after an edit
-abbrev pub edited : Edit → Labelled → Labelled
-edited (whole old new) x = new
-edited (within way change) x = after_within way change x
+abbrev pub after_edit : Edit → Labelled → Labelled
+after_edit (whole old new) x = new
+after_edit (within way change) x = after_within way change x
 
 -- an edit fits a labelled snapshot: what it finds is what stands there
 abbrev pub Fits : Edit → Labelled → Type 0
-Fits e x = Leads x e (edited e x)
+Fits e x = Leads x e (after_edit e x)
 
 -- edits in turn
-abbrev pub edited_by : List Edit → Labelled → Labelled
-edited_by [] x = x
-edited_by (e ∷ es) x = edited_by es (edited e x)
+abbrev pub after_edits : List Edit → Labelled → Labelled
+after_edits [] x = x
+after_edits (e ∷ es) x = after_edits es (after_edit e x)
 
 abbrev pub FitInTurn : List Edit → Labelled → Type 0
 FitInTurn [] x = Unit {0}
-FitInTurn (e ∷ es) x = Fits e x × FitInTurn es (edited e x)
+FitInTurn (e ∷ es) x = Fits e x × FitInTurn es (after_edit e x)
 
 -- the inverses, last first
 abbrev pub back : List Edit → List Edit

@@ -11,14 +11,14 @@ use Rattle.edit_core.specs.Edit.{Edit, whole, within, at_item, at_entry, add, re
 use Rattle.edit_core.specs.Comparing.{is_equal, same_label}
 
 -- an old part, and for each new value the edits that lead from the part to it
-pub record Old : Type 0 where
+pub record OldPart : Type 0 where
   pub value : Labelled
   pub edits : Labelled → List Edit
 
-abbrev pub values : List Old → List Labelled
+abbrev pub values : List OldPart → List Labelled
 values olds = map (λ old. old.value) olds
 
-abbrev pub entries_of : List (List ℕ × Old) → List Entry
+abbrev pub entries_of : List (List ℕ × OldPart) → List Entry
 entries_of olds = map (λ e. (e.0, e.1.value)) olds
 
 -- an item of the old array stays as this item of the new one: the same node, or an equal leaf
@@ -29,30 +29,30 @@ stays (keyed l es) (keyed k fs) = same_label l k
 stays _ _ = false
 
 -- there are as many items, and each stays at its index
-abbrev pub all_stay : List Old → List Labelled → Bool
+abbrev pub all_stay : List OldPart → List Labelled → Bool
 all_stay [] [] = true
 all_stay (o ∷ os) (n ∷ ns) = stays o.value n && all_stay os ns
 all_stay _ _ = false
 
 -- Each item becomes the new one at its index, by rising index. Those before are done already.
-abbrev pub one_by_one : List Labelled → List Old → List Labelled → List Edit
+abbrev pub one_by_one : List Labelled → List OldPart → List Labelled → List Edit
 one_by_one done (o ∷ os) (n ∷ ns) =
     map (moved_to_item done (values os)) (o.edits n) ++ one_by_one (done ++ n ∷ []) os ns
 one_by_one done _ _ = []
 
 -- the new item that is the old one, if there is one, and what the old one becomes before it is moved
-abbrev pub match_of : Old → List Labelled → Option Labelled
+abbrev pub match_of : OldPart → List Labelled → Option Labelled
 match_of o news = find (stays o.value) news
 
-abbrev pub edits_to : Old → Option Labelled → List Edit
+abbrev pub edits_to : OldPart → Option Labelled → List Edit
 edits_to o (Some n) = o.edits n
 edits_to o None = []
 
-abbrev pub becomes : Old → List Labelled → Labelled
+abbrev pub becomes : OldPart → List Labelled → Labelled
 becomes o news = unwrap_or (match_of o news) o.value
 
--- the items that stay are edited at their old indexes, by rising index
-abbrev pub edits_in_place : List Labelled → List Old → List Labelled → List Edit
+-- the items that stay are after_edit at their old indexes, by rising index
+abbrev pub edits_in_place : List Labelled → List OldPart → List Labelled → List Edit
 edits_in_place done [] news = []
 edits_in_place done (o ∷ os) news =
     map (moved_to_item done (values os)) (edits_to o (match_of o news))
@@ -68,37 +68,37 @@ abbrev pub additions : List Labelled → List Labelled → List Edit
 additions before [] = []
 additions before (x ∷ xs) = within [] (at_item before (add x) []) ∷ additions (before ++ x ∷ []) xs
 
--- where items don't stay at their indexes, all are removed once they are edited, and added in their new order
-abbrev pub moved : List Old → List Labelled → List Edit
+-- where items don't stay at their indexes, all are removed once they are after_edit, and added in their new order
+abbrev pub moved : List OldPart → List Labelled → List Edit
 moved olds news =
     edits_in_place [] olds news ++ (removals [] (map (λ o. becomes o news) olds) ++ additions [] news)
 
 -- the array rule
-abbrev pub item_edits : List Old → List Labelled → List Edit
+abbrev pub item_edits : List OldPart → List Labelled → List Edit
 item_edits olds news = if all_stay olds news then one_by_one [] olds news else moved olds news
 
 -- ascending entries about a key: those below it, the one that it holds, if any, and those above
 pub record Parting : Type 0 where
-  pub below : List (List ℕ × Old)
-  pub held : Option Old
-  pub above : List (List ℕ × Old)
+  pub below : List (List ℕ × OldPart)
+  pub held : Option OldPart
+  pub above : List (List ℕ × OldPart)
 
-abbrev pub parted_after : List ℕ × Old → List (List ℕ × Old) → Parting → Ordering → Parting
+abbrev pub parted_after : List ℕ × OldPart → List (List ℕ × OldPart) → Parting → Ordering → Parting
 parted_after e es rest Less = record { below = e ∷ rest.below; held = rest.held; above = rest.above }
 parted_after e es rest Equal = record { below = []; held = Some e.1; above = es }
 parted_after e es rest Greater = record { below = []; held = None; above = e ∷ es }
 
-abbrev pub parted : List ℕ → List (List ℕ × Old) → Parting
+abbrev pub parted : List ℕ → List (List ℕ × OldPart) → Parting
 parted key [] = record { below = []; held = None; above = [] }
 parted key (e ∷ es) = parted_after e es (parted key es) (slice_cmp nat_cmp e.0 key)
 
 -- a key of the new record: the edits of its value where it is held, and an addition where it isn't
-abbrev pub edits_at : List Entry → List ℕ → Option Old → Labelled → List Entry → List Edit
+abbrev pub edits_at : List Entry → List ℕ → Option OldPart → Labelled → List Entry → List Edit
 edits_at before key (Some old) new after = map (moved_to_entry before key after) (old.edits new)
 edits_at before key None new after = within [] (at_entry before key (add new) after) ∷ []
 
 -- the keys of the new record, ascending; those before are done already
-abbrev pub settings : List Entry → List (List ℕ × Old) → List Entry → List Edit
+abbrev pub settings : List Entry → List (List ℕ × OldPart) → List Entry → List Edit
 settings done olds [] = []
 settings done olds (n ∷ ns) =
     let p : Parting = parted n.0 olds in
@@ -106,7 +106,7 @@ settings done olds (n ∷ ns) =
     edits_at before n.0 p.held n.1 (entries_of p.above) ++ settings (before ++ n ∷ []) p.above ns
 
 -- the old entries and the new ones together, where the new ones count at keys that both hold
-abbrev pub united : List (List ℕ × Old) → List Entry → List Entry
+abbrev pub united : List (List ℕ × OldPart) → List Entry → List Entry
 united olds [] = entries_of olds
 united olds (n ∷ ns) =
     let p : Parting = parted n.0 olds in
@@ -118,14 +118,14 @@ cuts before [] after = []
 cuts before (e ∷ es) after = within [] (at_entry before e.0 (remove e.1) (es ++ after)) ∷ cuts before es after
 
 -- the keys that only the old record has, ascending
-abbrev pub cleared : List Entry → List (List ℕ × Old) → List Entry → List Edit
+abbrev pub cleared : List Entry → List (List ℕ × OldPart) → List Entry → List Edit
 cleared done olds [] = cuts done (entries_of olds) []
 cleared done olds (n ∷ ns) =
     let p : Parting = parted n.0 olds in
     cuts done (entries_of p.below) (n ∷ united p.above ns) ++ cleared (done ++ n ∷ []) p.above ns
 
 -- the rule of maps, and of models, whose keys are the same before and after
-abbrev pub entry_edits : List (List ℕ × Old) → List Entry → List Edit
+abbrev pub entry_edits : List (List ℕ × OldPart) → List Entry → List Edit
 entry_edits olds news = settings [] olds news ++ cleared [] olds news
 
 -- another value in the place of the whole, unless nothing changes
@@ -133,11 +133,11 @@ abbrev pub leaf_edits : Value → Labelled → List Edit
 leaf_edits v (leaf w) = if is_equal v w then [] else whole (leaf v) (leaf w) ∷ []
 leaf_edits v new = whole (leaf v) new ∷ []
 
-abbrev pub array_edits : Label → Labelled → List Old → Labelled → List Edit
+abbrev pub array_edits : Label → Labelled → List OldPart → Labelled → List Edit
 array_edits l old olds (many k bs) = if same_label l k then item_edits olds (items_in bs) else whole old (many k bs) ∷ []
 array_edits l old olds new = whole old new ∷ []
 
-abbrev pub record_edits : Label → Labelled → List (List ℕ × Old) → Labelled → List Edit
+abbrev pub record_edits : Label → Labelled → List (List ℕ × OldPart) → Labelled → List Edit
 record_edits l old olds (keyed k es) = if same_label l k then entry_edits olds (entries_in es) else whole old (keyed k es) ∷ []
 record_edits l old olds new = whole old new ∷ []
 
@@ -147,10 +147,10 @@ abbrev mutual
   edits_between (many l bs) new = array_edits l (many l bs) (olds_in bs) new
   edits_between (keyed l es) new = record_edits l (keyed l es) (old_entries_in es) new
 
-  pub olds_in : Branches Label → List Old
+  pub olds_in : Branches Label → List OldPart
   olds_in no_branches = []
   olds_in (branch x bs) = record { value = x; edits = edits_between x } ∷ olds_in bs
 
-  pub old_entries_in : Entries Label → List (List ℕ × Old)
+  pub old_entries_in : Entries Label → List (List ℕ × OldPart)
   old_entries_in no_entries = []
   old_entries_in (entry k x es) = (k, record { value = x; edits = edits_between x }) ∷ old_entries_in es

@@ -2,7 +2,7 @@ pub mod Labelled
 pub mod Edit
 pub mod Comparing
 pub mod Between
-pub mod Rules
+pub mod Typing
 pub mod Template
 pub mod Matching
 pub mod Reconciling
@@ -11,3 +11,5 @@ pub mod Laws
 pub mod Plain
 pub mod Around
 pub mod Numbers
+pub mod Labelling
+pub mod Rules

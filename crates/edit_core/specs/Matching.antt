@@ -3,18 +3,18 @@ use Rattle.std.specs.Prelude.{ℕ, List, [], ◌∷◌, map, Bool, true, false, 
 use Rattle.snap_core.specs.Value.{Value}
 use Rattle.edit_core.specs.declared.kind.Kind.{Kind}
 use Rattle.edit_core.specs.declared.kind.Kind.TheVariants.{Model}
-use Rattle.edit_core.specs.Labelled.{Label, Labelled, bare}
-use Rattle.edit_core.specs.Comparing.{is_equal, same_kind}
-use Rattle.edit_core.specs.Rules.{Rules, Matching, label_of, equal_under}
+use Rattle.edit_core.specs.Labelled.{Labelled}
+use Rattle.edit_core.specs.Comparing.{is_equal}
+use Rattle.edit_core.specs.Typing.{Typing, Matching, Rules, Typed, seen, is_kind, equal_under}
 
 -- one model with an identifier made both, and their identifiers are equal
-abbrev pub identified : Rules → Option Kind → Option Label → Value → Value → Bool
-identified r (Some (Model m)) (Some l) old new = same_kind l.kind (Model m) && equal_under (r.identifier_of m) old new
-identified r _ _ old new = false
+abbrev pub identified : Typing → Option Kind → Typed → Value → Bool
+identified typing (Some (Model m)) old new = is_kind old.kind (Model m) && equal_under (typing.identifier_of m) old.value new
+identified typing _ old new = false
 
 -- an old item and a new one of a type are the same
-abbrev pub is_same : Rules → ℕ → Labelled → Value → Bool
-is_same r t old new = is_equal (bare old) new || identified r (r.kind_of t new) (label_of old) (bare old) new
+abbrev pub same_item : Typing → ℕ → Typed → Value → Bool
+same_item typing t old new = is_equal old.value new || identified typing (typing.kind_of t new) old new
 
 -- a new item, and the old one that it is matched with, if any
 pub record Slot : Type 0 where
@@ -42,7 +42,7 @@ abbrev pub open_slot : Value → Slot
 open_slot new = record { new = new; old = None }
 
 -- there are as many items, and the items at each index are the same
-abbrev pub pairwise : (Labelled → Value → Bool) → List Labelled → List Value → Bool
+abbrev pub pairwise : {X : Type 0} → (X → Value → Bool) → List X → List Value → Bool
 pairwise same [] [] = true
 pairwise same (old ∷ olds) (new ∷ news) = same old new && pairwise same olds news
 pairwise same _ _ = false
@@ -52,5 +52,8 @@ matched same olds news =
     if pairwise same olds news then map Some olds else map (λ slot. slot.old) (all_taken same olds (map open_slot news))
 
 -- items that are the same at each index stay there; otherwise each old item is matched with the first new one that is the same
-abbrev pub first_matching : Rules → Matching
-first_matching r t olds news = matched (is_same r t) olds news
+abbrev pub first_matching : Typing → Matching
+first_matching typing t olds news = matched (λ old new. same_item typing t (seen old) new) olds news
+
+abbrev pub by_first : Typing → Rules
+by_first typing = record { typing = typing; matching = first_matching typing }

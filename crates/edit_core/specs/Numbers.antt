@@ -2,7 +2,7 @@
 use Rattle.std.specs.Prelude.{◌≡◌, ℕ, ◌+◌, ◌<◌, ◌≤◌, ◌==◌, List, [], ◌∷◌, Bool, Option, Some, None, sum_by, if◌then◌else◌}
 use Rattle.snap_core.specs.Value.{Value}
 use Rattle.edit_core.specs.Labelled.{Label, Labelled, Branches, Entries, leaf, many, keyed, no_branches, branch, no_entries, entry}
-use Rattle.edit_core.specs.Rules.{Matching}
+use Rattle.edit_core.specs.Typing.{Matching}
 use Rattle.edit_core.specs.Reconciling.{Written}
 
 abbrev pub one_where : Bool → ℕ

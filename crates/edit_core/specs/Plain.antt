@@ -1,27 +1,27 @@
 -- What edits are without labels: patches.
-use Rattle.std.specs.Prelude.{ℕ, ◌<◌, ◌^◌, List, [], ◌∷◌, length, Option, Some, None, decimal}
-use Rattle.snap_core.specs.Value.{Value, null, boolean, integer, text, list, dict, no_parts, part, no_members, member, Items, Fields}
+use Rattle.std.specs.Prelude.{ℕ, ◌<◌, ◌^◌, List, [], ◌∷◌, length, Some, None, decimal}
+use Rattle.snap_core.specs.Value.{Value, list, dict, no_parts, part, no_members, member, Items, Fields}
 use Rattle.snap_core.specs.Level.{count_of}
 use Rattle.snap_core.specs.Unview.{snap_of}
 use Rattle.pointer_core.specs.Path.{Path}
 use Rattle.patch_core.specs.declared.patch.Patch.{Patch}
 use Rattle.patch_core.specs.declared.patch.PatchOp.TheVariants.{Add, Replace, Remove}
-use Rattle.edit_core.specs.Labelled.{Labelled, bare}
-use Rattle.edit_core.specs.Edit.{Edit, Change, Operation, Step, add, remove, replace, at_item, at_entry, item, entry, whole, within}
+use Rattle.edit_core.specs.Labelled.{bare}
+use Rattle.edit_core.specs.Edit.{Edit, Change, Operation, Turn, add, remove, replace, at_item, at_entry, to_item, to_entry, whole, within}
 
--- the token of a step, and that of the place of a change
-abbrev pub token_of : Step → List ℕ
-token_of (item i) = decimal i
-token_of (entry i key) = key
+-- the token of a turn of a way, and that of the place of a change
+abbrev pub token_of : Turn → List ℕ
+token_of (to_item i) = decimal i
+token_of (to_entry i key) = key
 
 abbrev pub place_token : Change → List ℕ
 place_token (at_item before op after) = decimal (length before)
 place_token (at_entry before key op after) = key
 
 -- the path from a value to the place of a change in it
-abbrev pub path_to : List Step → Change → Path
+abbrev pub path_to : List Turn → Change → Path
 path_to [] change = place_token change ∷ []
-path_to (s ∷ way) change = token_of s ∷ path_to way change
+path_to (turn ∷ way) change = token_of turn ∷ path_to way change
 
 abbrev pub operation_in : Change → Operation
 operation_in (at_item before op after) = op

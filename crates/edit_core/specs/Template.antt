@@ -6,7 +6,7 @@ use Rattle.edit_core.specs.declared.kind.Kind.{Kind}
 use Rattle.edit_core.specs.declared.kind.Kind.TheVariants.{Array}
 use Rattle.edit_core.specs.Labelled.{Label, Annotated, Branches, Entries, Labelled, Entry, leaf, many, keyed, no_branches, branch, no_entries, entry, items_in, entries_in, bare}
 use Rattle.edit_core.specs.Comparing.{is_equal}
-use Rattle.edit_core.specs.Rules.{Rules, Matching, label_of, stays_as}
+use Rattle.edit_core.specs.Typing.{Typing, Rules, label_of, seen, stays_as}
 
 -- a label whose number is kept, or still to be drawn
 pub record NewLabel : Type 0 where
@@ -36,9 +36,9 @@ abbrev mutual
   kept_entries (entry k x es) = entry k (kept x) (kept_entries es)
 
 -- the node that stays, if any, where a value of a kind is set
-abbrev pub standing : Rules → Kind → Option Labelled → Value → Option Labelled
-standing r kind (Some old) new = if stays_as r kind old new then Some old else None
-standing r kind None new = None
+abbrev pub standing : Typing → Kind → Option Labelled → Value → Option Labelled
+standing typing kind (Some old) new = if stays_as typing kind (seen old) new then Some old else None
+standing typing kind None new = None
 
 -- the label of the node that stays, or a new one
 abbrev pub label_for : Kind → Option Labelled → NewLabel
@@ -78,44 +78,41 @@ abbrev pub unless_equal : Option Labelled → Value → Template → Template
 unless_equal (Some old) v other = if is_equal (bare old) v then kept old else other
 unless_equal None v other = other
 
--- an array of a type, with the old one that stays, if any; `making` makes its items, given what they are matched with
-abbrev pub array_of : Matching → Option Labelled → ℕ → Items → NewLabel → (ℕ → List (Option Labelled) → Branches NewLabel) → Template
-array_of matching old t ps label making = many label (making t (matching t (items_under old) (values_in ps)))
-
-abbrev pub array_template : Rules → Matching → Option Kind → Option Labelled → Items → (ℕ → List (Option Labelled) → Branches NewLabel) → Template
-array_template r matching (Some (Array t)) old ps making =
-    let stays : Option Labelled = standing r (Array t) old (list tt ps) in
-    array_of matching stays t.0 ps (label_for (Array t) stays) making
-array_template r matching _ old ps making = leaf (list tt ps)
+-- an array, with the old one that stays, if any; `making` makes its items, given what they are matched with
+abbrev pub array_template : Rules → Option Kind → Option Labelled → Items → (ℕ → List (Option Labelled) → Branches NewLabel) → Template
+array_template rules (Some (Array t)) old ps making =
+    let stays : Option Labelled = standing rules.typing (Array t) old (list tt ps) in
+    many (label_for (Array t) stays) (making t.0 (rules.matching t.0 (items_under stays) (values_in ps)))
+array_template rules _ old ps making = leaf (list tt ps)
 
 -- a record of a model or a map, likewise
 abbrev pub record_template : Rules → Option Kind → Option Labelled → Fields → (Kind → List Entry → Entries NewLabel) → Template
-record_template r None old ms making = leaf (dict tt ms)
-record_template r (Some (Array t)) old ms making = leaf (dict tt ms)
-record_template r (Some kind) old ms making =
-    let stays : Option Labelled = standing r kind old (dict tt ms) in
+record_template rules None old ms making = leaf (dict tt ms)
+record_template rules (Some (Array t)) old ms making = leaf (dict tt ms)
+record_template rules (Some kind) old ms making =
+    let stays : Option Labelled = standing rules.typing kind old (dict tt ms) in
     keyed (label_for kind stays) (making kind (entries_under stays))
 
 abbrev mutual
   -- What a type makes of a value in the place of an old one, if there is one.
-  pub template : Rules → Matching → ℕ → Option Labelled → Value → Template
-  template r matching t old (list a ps) =
-      unless_equal old (list a ps) (array_template r matching (r.kind_of t (list a ps)) old ps (item_templates r matching ps))
-  template r matching t old (dict a ms) =
-      unless_equal old (dict a ms) (record_template r (r.kind_of t (dict a ms)) old ms (field_templates r matching ms))
-  template r matching t old v = leaf v
+  pub template : Rules → ℕ → Option Labelled → Value → Template
+  template rules t old (list a ps) =
+      unless_equal old (list a ps) (array_template rules (rules.typing.kind_of t (list a ps)) old ps (item_templates rules ps))
+  template rules t old (dict a ms) =
+      unless_equal old (dict a ms) (record_template rules (rules.typing.kind_of t (dict a ms)) old ms (field_templates rules ms))
+  template rules t old v = leaf v
 
   -- items of a type, each with the old one that it is matched with
-  pub item_templates : Rules → Matching → Items → ℕ → List (Option Labelled) → Branches NewLabel
-  item_templates r matching no_parts t olds = no_branches
-  item_templates r matching (part v ps) t olds =
-      branch (template r matching t (first_in olds) v) (item_templates r matching ps t (rest_of olds))
+  pub item_templates : Rules → Items → ℕ → List (Option Labelled) → Branches NewLabel
+  item_templates rules no_parts t olds = no_branches
+  item_templates rules (part v ps) t olds =
+      branch (template rules t (first_in olds) v) (item_templates rules ps t (rest_of olds))
 
   -- the parts of a node of a kind, each with the old one under its key
-  pub field_templates : Rules → Matching → Fields → Kind → List Entry → Entries NewLabel
-  field_templates r matching no_members kind olds = no_entries
-  field_templates r matching (member k v ms) kind olds =
-      entry k (template r matching (r.type_under kind k) (entry_at k olds) v) (field_templates r matching ms kind olds)
+  pub field_templates : Rules → Fields → Kind → List Entry → Entries NewLabel
+  field_templates rules no_members kind olds = no_entries
+  field_templates rules (member k v ms) kind olds =
+      entry k (template rules (rules.typing.type_under kind k) (entry_at k olds) v) (field_templates rules ms kind olds)
 
 -- a number from the next one on, where none is kept
 abbrev pub drawn : ℕ → NewLabel → Label

@@ -1,4 +1,4 @@
-ghost use Rattle.edit_core.specs.Laws.{EditsLeadToOne, EditsAreTakenBack, EditsLeadAcross, ReconcilingLeadsToTheNew, PatchesLeadToTheNew, NumbersDiffer, FirstMatchesOnce};
+ghost use Rattle.edit_core.specs.Laws.{EditsLeadToOne, EditsAreTakenBack, EditsLeadAcross, ReconcilingLeadsToTheNew, PatchesLeadToTheNew, NumbersDiffer, FirstMatchesOnce, EqualChangesNothing, LabelsFollowTypes};
 
 /// An edit that leads from a labelled snapshot leads to one alone.
 pub fn edits_lead_to_one()
@@ -33,4 +33,14 @@ pub fn numbers_differ()
 /// The matching by the first item that is the same matches each old item at most once.
 pub fn first_matches_once()
     ensures { FirstMatchesOnce }
+{}
+
+/// An equal value changes nothing, and no edits leave all as it was.
+pub fn equal_changes_nothing()
+    ensures { EqualChangesNothing }
+{}
+
+/// Each node has the kind that its type gives it, also after a value is set.
+pub fn labels_follow_types()
+    ensures { LabelsFollowTypes }
 {}

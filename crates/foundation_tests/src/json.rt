@@ -1,74 +1,11 @@
-use list_core::Parts;
-use pointer_core::Pointer;
-use snap_core::{Bytes, Field, Snap};
-use snap_json::{ReadError, print_snap, read_loosely, read_snap};
-use std::alloc::{AllocError, Global};
+use snap_core::{Field, Snap};
+use snap_json::{ReadError, read_loosely, read_snap};
 use std::test::Fail;
 
-// `whole` and the tokens that lead there, each behind a `/`
-fn shown_path(alloc: Global, path: &Pointer) -> Result<Bytes, AllocError> {
-    let mut text = Parts::from_slice(alloc, b"whole")?;
-    for at in 0..path.len() {
-        if let Some(token) = path.get(at) {
-            text.push(b'/')?;
-            for byte in token.text().bytes() {
-                text.push(byte)?;
-            }
-        }
-    }
-    Ok(text)
-}
-
-// the text that what was read prints as, or else its fault
-fn shown(alloc: Global, bytes: &[u8]) -> Result<Bytes, AllocError> {
-    match read_snap(alloc, bytes) {
-        Ok(snap) => print_snap(alloc, &snap),
-        Err(ReadError::Memory) => Err(AllocError),
-        Err(ReadError::Syntax) => Parts::from_slice(alloc, b"syntax"),
-        Err(ReadError::Whole { path }) => shown_path(alloc, &path),
-    }
-}
-
 #[test]
-fn reads(rt: HostRuntime) -> Result<(), Fail> {
-    let alloc = rt.alloc();
-    let cases = [
-        (
-            r#"{"b":true,"n":5,"s":"hi"}"#,
-            r#"{"b":true,"n":5,"s":"hi"}"#,
-        ),
-        ("[]", "[]"),
-        (r#" {"b":1,"a":2} "#, r#"{"a":2,"b":1}"#),
-        ("{", "syntax"),
-        ("", "syntax"),
-        ("[] 1", "syntax"),
-        ("01", "syntax"),
-        ("1.0", "whole"),
-        ("-0", "whole"),
-        ("1e2", "whole"),
-        ("0", "0"),
-        (r#"{"a":[1,2.5]}"#, "whole/a/1"),
-        ("9007199254740991", "9007199254740991"),
-        ("-9007199254740991", "-9007199254740991"),
-        ("9007199254740992", "whole"),
-        ("-9007199254740992", "whole"),
-        ("18446744073709551616", "whole"),
-        (r#"{"b":1.5,"a":[0,1e2]}"#, "whole/a/1"),
-        ("[[],[1,[0.5]],0.5]", "whole/1/1/0"),
-        (r#""\ud800""#, "syntax"),
-        (r#"{"a":1,"a":2}"#, r#"{"a":2}"#),
-        (r#"{"a":0.5,"a":2}"#, r#"{"a":2}"#),
-        (r#"[null,false,true,"é"]"#, r#"[null,false,true,"é"]"#),
-    ];
-    for (text, wanted) in cases {
-        let found = shown(alloc, text.as_bytes())?;
-        assert_eq!(rt; found.as_slice(), wanted.as_bytes(), "at {text}");
-    }
-    assert_eq!(rt;
-        shown(alloc, &[b'"', 0xff, b'"'])?.as_slice(),
-        b"syntax".as_slice()
-    );
-    Ok(())
+fn bytes_are_in_utf8(rt: HostRuntime) {
+    let no_utf8 = read_snap(rt.alloc(), &[b'"', 0xff, b'"']);
+    assert!(rt; matches!(no_utf8, Err(ReadError::Syntax)));
 }
 
 #[test]
@@ -92,57 +29,6 @@ fn reads_each_kind(rt: HostRuntime) -> Result<(), Fail> {
             _ => false,
         };
         assert!(rt; is_right, "the value of {name}");
-    }
-    Ok(())
-}
-
-fn nested(alloc: Global, depth: usize) -> Result<Bytes, AllocError> {
-    let mut text = Parts::new(alloc);
-    for _ in 0..depth {
-        text.push(b'[')?;
-    }
-    for _ in 0..depth {
-        text.push(b']')?;
-    }
-    Ok(text)
-}
-
-#[test]
-fn reads_to_a_depth(rt: HostRuntime) -> Result<(), Fail> {
-    let alloc = rt.alloc();
-    let deepest = nested(alloc, 127)?;
-    assert_eq!(rt;
-        shown(alloc, deepest.as_slice())?.as_slice(),
-        deepest.as_slice()
-    );
-    let deeper = nested(alloc, 128)?;
-    assert_eq!(rt;
-        shown(alloc, deeper.as_slice())?.as_slice(),
-        b"syntax".as_slice()
-    );
-    Ok(())
-}
-
-#[test]
-fn prints(rt: HostRuntime) -> Result<(), Fail> {
-    let alloc = rt.alloc();
-    let cases = [
-        ("null", "null"),
-        ("[ true , false ]", "[true,false]"),
-        (r#"{ "k" : [ ] , "d" : { } }"#, r#"{"d":{},"k":[]}"#),
-        (r#""a\"b\\c\/d""#, r#""a\"b\\c/d""#),
-        (
-            r#""\u0008\u0009\u000a\u000c\u000d\u0000\u001f""#,
-            r#""\b\t\n\f\r\u0000\u001f""#,
-        ),
-        (r#""\u00e9\ud83d\ude00""#, "\"é😀\""),
-        (r#"{"\u0041\n":-12}"#, r#"{"A\n":-12}"#),
-    ];
-    for (text, wanted) in cases {
-        let printed = shown(alloc, text.as_bytes())?;
-        assert_eq!(rt; printed.as_slice(), wanted.as_bytes(), "at {text}");
-        let again = shown(alloc, printed.as_slice())?;
-        assert_eq!(rt; again.as_slice(), printed.as_slice(), "at {text}");
     }
     Ok(())
 }

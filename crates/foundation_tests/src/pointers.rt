@@ -1,4 +1,4 @@
-use pointer_core::{Pointer, Rule, SchemaRule};
+use pointer_core::{Pointer, Refusal, Rule, SchemaRule};
 use snap_core::Txt;
 use std::test::Fail;
 
@@ -22,27 +22,25 @@ fn pointers_are_spelled(rt: HostRuntime) -> Result<(), Fail> {
 }
 
 #[test]
-fn rules_have_names_and_statuses(rt: HostRuntime) {
-    for (rule, name, status) in [
-        (Rule::Head, "head", 400),
-        (Rule::Syntax, "syntax", 400),
-        (Rule::Whole, "whole", 400),
-        (Rule::Mistyped, "type", 422),
-        (Rule::Refine, "refine", 422),
-        (Rule::Large, "large", 422),
-    ] {
-        assert_eq!(rt; rule.name(), name);
-        assert_eq!(rt; rule.status(), status);
-    }
-    for (rule, name) in [
-        (SchemaRule::Shape, "shape"),
-        (SchemaRule::Name, "name"),
-        (SchemaRule::Twice, "twice"),
-        (SchemaRule::History, "history"),
-        (SchemaRule::Target, "target"),
-        (SchemaRule::Union, "union"),
-        (SchemaRule::Default, "default"),
-    ] {
-        assert_eq!(rt; rule.name(), name);
-    }
+fn refusals_have_texts(rt: HostRuntime) -> Result<(), Fail> {
+    let alloc = rt.alloc();
+    let path = Pointer::parse(alloc, "/a~1b/0")?;
+    let refusal = Refusal {
+        path: path.clone_in()?,
+        rule: Rule::Mistyped,
+    };
+    let copy = refusal.clone_in()?;
+    assert_eq!(rt; format!(in alloc; "{copy}")?.as_str(), "type at /a~1b/0");
+    let refusal = Refusal {
+        path: Pointer::new(alloc),
+        rule: Rule::Thrown(Txt::copy(alloc, "stop")?),
+    };
+    let copy = refusal.clone_in()?;
+    assert_eq!(rt; format!(in alloc; "{copy}")?.as_str(), "thrown at the root");
+    assert!(rt; copy.path.is_root() && !path.is_root());
+    assert_eq!(rt;
+        format!(in alloc; "{}", SchemaRule::Target)?.as_str(),
+        "target"
+    );
+    Ok(())
 }

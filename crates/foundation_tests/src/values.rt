@@ -3,7 +3,7 @@ ghost use Rattle.snap_core.specs.Value.{AreKeyed};
 ghost use Rattle.snap_core.specs.View.{fields_view};
 
 use list_core::Parts;
-use snap_core::{Field, Fields, Name, NameError, Snap, Txt, find, is_whole, position};
+use snap_core::{Field, Fields, Snap, Txt, find, position};
 use std::alloc::{AllocError, Global};
 use std::test::Fail;
 
@@ -32,26 +32,6 @@ fn list_of(alloc: Global, item: Snap) -> Result<Snap, AllocError> {
     let mut items = Parts::new(alloc);
     items.push(item)?;
     Ok(Snap::List(items))
-}
-
-#[test]
-fn values_are_weighed_and_measured(rt: HostRuntime) -> Result<(), Fail> {
-    let alloc = rt.alloc();
-    let empty = Snap::List(Parts::new(alloc));
-    for (value, weight, depth) in [
-        (Snap::Null, 1, 1),
-        (Snap::Int(-9007199254740991), 1, 1),
-        (text(alloc, "aé")?, 4, 1),
-        (empty.clone_in(alloc)?, 1, 1),
-        (list_of(alloc, empty)?, 2, 2),
-        // The keys weigh 16, the texts 3, and there are 5 values.
-        (todo(alloc, "z")?, 24, 2),
-    ] {
-        assert_eq!(rt; value.weight(100), weight, "{value:?}");
-        assert_eq!(rt; value.depth(100), depth, "{value:?}");
-        assert_eq!(rt; (value.weight(1), value.depth(0)), (1, 0));
-    }
-    Ok(())
 }
 
 #[test]
@@ -90,48 +70,4 @@ fn values_are_found_by_their_keys(rt: HostRuntime) -> Result<(), Fail> {
     assert!(rt; find(fields.as_slice(), "").is_none());
     assert!(rt; find(fields.as_slice(), "name").is_none());
     Ok(())
-}
-
-#[test]
-fn names_are_read(rt: HostRuntime) -> Result<(), Fail> {
-    let alloc = rt.alloc();
-    let long = "a".repeat(alloc, 64)?;
-    let longer = "a".repeat(alloc, 65)?;
-    for (name, is_name) in [
-        ("a", true),
-        ("_9", true),
-        ("Office", true),
-        (long.as_str(), true),
-        (longer.as_str(), false),
-        ("", false),
-        ("9a", false),
-        ("a-b", false),
-        ("é", false),
-    ] {
-        assert_eq!(rt; snap_core::is_name(name.as_bytes()), is_name, "{name}");
-        match Name::read(alloc, name) {
-            Ok(read) => {
-                assert!(rt; is_name, "{name}");
-                assert_eq!(rt; read.clone_in(alloc)?.text(), name);
-            }
-            Err(error) => {
-                assert!(rt; !is_name, "{name}");
-                assert_eq!(rt; error, NameError::BadName);
-            }
-        }
-    }
-    Ok(())
-}
-
-#[test]
-fn whole_numbers_are_those_of_a_double(rt: HostRuntime) {
-    for (number, whole) in [
-        (9_007_199_254_740_991, true),
-        (9_007_199_254_740_992, false),
-        (-9_007_199_254_740_991, true),
-        (-9_007_199_254_740_992, false),
-        (0, true),
-    ] {
-        assert_eq!(rt; is_whole(number), whole, "{number}");
-    }
 }

@@ -1,21 +1,21 @@
 -- What calls that change a list or a record in place answer.
-use Rattle.std.proofs.Common.{◌≡◌, ◌≢◌, ℕ, zero, suc, ◌≤◌, ◌<◌, List, [], ◌∷◌, length, true, false, Option, Some, None, Result, Ok, Err, slice_get, refl, sym, ◌∙◌, ap, subst, inl, inr, arith}
-use Rattle.std.specs.Prelude.{insert, remove, slice_set, nat_lt, is_some, option_and_then, OnErr, if◌then◌else◌}
+use Rattle.std.proofs.Common.{◌≡◌, ℕ, zero, suc, ◌≤◌, ◌<◌, List, [], ◌∷◌, length, true, false, Option, Some, None, Result, Ok, Err, slice_get, refl, sym, ◌∙◌, ap, subst, inl, inr, arith}
+use Rattle.std.specs.Prelude.{insert, remove, slice_set, nat_lt, option_and_then, OnErr, if◌then◌else◌}
 use Rattle.std.specs.Option.{option_map}
 use Rattle.std.proofs.lemmas.Bool.{lt-ltb, cases_lt}
 use Rattle.std.proofs.lemmas.Option.{slice_get_past}
 use Rattle.snap_core.specs.Value.{Value, Fields, Items, list, dict, value_at, AreKeyed, IsOrdered, AreOrdered, AreOrderedMembers}
 use Rattle.snap_core.specs.View.{view, items_view, fields_view}
-use Rattle.snap_core.specs.Level.{at_index, at_key, child, count_of, set_child, item_at, insert_item, set_item, remove_item, set_field, insert_field, remove_field}
+use Rattle.snap_core.specs.Level.{at_index, item_at, insert_item, set_item, remove_item, set_field, remove_field}
 use Rattle.snap_core.specs.declared.snap.Snap.{Snap}
 use Rattle.snap_core.specs.declared.snap.Field.{Field}
 use Rattle.snap_core.proofs.Levels.{AreKeyed-of, IsOrdered-item_at}
 use Rattle.snap_core.proofs.Keys.{IsOrdered-value_at}
-use Rattle.snap_core.proofs.InPlace.{count_of-items_view, item_at-items_view, items_view-set, items_view-insert, items_view-remove, fields_view-set, fields_view-remove}
+use Rattle.snap_core.proofs.InPlace.{item_at-items_view, items_view-set, items_view-insert, items_view-remove, fields_view-set, fields_view-remove}
 use Rattle.pointer_core.specs.Path.{Path}
 use Rattle.pointer_core.specs.Index.{index_of}
-use Rattle.patch_core.specs.Place.{index_below, new_index}
-use Rattle.patch_core.specs.Application.{with_index, where_held, put_field, edited, changed, inside, inside_at, after_part, outcome_map}
+use Rattle.patch_core.specs.Place.{index_below}
+use Rattle.patch_core.specs.Application.{with_index, where_held, put_field, changed, inside, inside_at, outcome_map}
 use Rattle.patch_core.specs.Outcome.{Answers}
 use Rattle.patch_core.specs.declared.error.PatchError.{PatchError}
 use Rattle.patch_core.specs.declared.error.PatchError.TheVariants as error

@@ -1,17 +1,17 @@
 -- Where a patch fits, its inverse fits what it leads to, and leads back.
-use Rattle.std.proofs.Common.{◌≡◌, ℕ, List, [], ◌∷◌, Option, Some, None, Result, Ok, refl, sym, ◌∙◌, ap}
+use Rattle.std.proofs.Common.{◌≡◌, ℕ, List, [], ◌∷◌, Option, Some, None, Ok, refl, ◌∙◌, ap}
 use Rattle.std.specs.Prelude.{unwrap_or}
 use Rattle.snap_core.specs.Value.{Tree, null, IsOrdered}
-use Rattle.snap_core.specs.Level.{Step, child, set_child, CanInsert, insert_child, remove_child}
+use Rattle.snap_core.specs.Level.{Step, child, set_child, insert_child, remove_child}
 use Rattle.snap_core.proofs.Levels.{child-set_child, set_child-set_child, set_child-same, child-insert_child, remove_child-insert_child, CanInsert-remove_child, insert_child-remove_child, IsOrdered-child}
 use Rattle.pointer_core.specs.Path.{Path}
-use Rattle.patch_core.specs.Place.{step_of, part_under}
+use Rattle.patch_core.specs.Place.{step_of}
 use Rattle.patch_core.specs.Application.{edited, changed}
 use Rattle.patch_core.specs.Fits.{HasValues, FitsPart, FitsAt}
 use Rattle.patch_core.specs.Inverse.{opposite}
 use Rattle.patch_core.specs.declared.patch.PatchOp.{PatchOp}
 use Rattle.patch_core.specs.declared.patch.PatchOp.TheVariants.{Add, Replace, Remove}
-use Rattle.patch_core.proofs.Steps.{StepTo, step_to, part_under-at, step_of-set_child, step_of-insert_child, step_of-remove_child, edited-add, edited-replace, edited-remove}
+use Rattle.patch_core.proofs.Steps.{step_to, part_under-at, step_of-set_child, step_of-insert_child, step_of-remove_child, edited-add, edited-replace, edited-remove}
 
 -- what an operation leads to at one level, and that its opposite leads back
 record PartBack {A : Type 0} (op : PatchOp) (token : List ℕ) (value old : Option (Tree A)) (t : Tree A) : Type 0 where

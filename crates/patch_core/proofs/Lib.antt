@@ -1,5 +1,9 @@
 pub mod Steps
 pub mod Inverses
 pub mod Ordered
+pub mod Plain
 pub mod TakenBack
 pub mod InPlace
+pub mod Readings
+pub mod ReadBack
+pub mod ReadValues

@@ -1,9 +1,12 @@
 -- Keys stay in ascending order, whatever patch is applied.
-use Rattle.std.proofs.Common.{◌≡◌, ℕ, List, [], ◌∷◌, Option, Some, None, Result, Ok, Err, refl, subst}
-use Rattle.std.specs.Prelude.{is_some, if◌then◌else◌}
+use Rattle.std.proofs.Common.{◌≡◌, ℕ, List, [], ◌∷◌, Option, Some, None, Result, Ok, Err, refl, sym, subst}
+use Rattle.std.specs.Prelude.{is_some, OnErr, if◌then◌else◌}
 use Rattle.std.specs.Option.{option_map}
-use Rattle.snap_core.specs.Value.{Tree, TreeItems, TreeFields, list, dict, value_at, IsOrdered, AreOrdered, AreOrderedMembers}
-use Rattle.snap_core.specs.Level.{Step, count_of, child, set_child, set_field, insert_field, remove_field, set_item, insert_item, remove_item}
+use Rattle.snap_core.specs.View.{view}
+use Rattle.snap_core.specs.declared.snap.Snap.{Snap}
+use Rattle.patch_core.specs.Outcome.{Answers}
+use Rattle.snap_core.specs.Value.{Value, Tree, TreeItems, TreeFields, list, dict, value_at, IsOrdered, AreOrdered, AreOrderedMembers}
+use Rattle.snap_core.specs.Level.{Step, count_of, child, set_child, set_field, insert_field, remove_field}
 use Rattle.snap_core.proofs.Levels.{AreOrdered-set_item, AreOrdered-insert_item, AreOrdered-remove_item, AreOrderedMembers-set_field, AreOrderedMembers-insert_field, AreOrderedMembers-remove_field, IsOrdered-child, IsOrdered-set_child}
 use Rattle.pointer_core.specs.Path.{Path}
 use Rattle.patch_core.specs.Place.{step_of}
@@ -18,7 +21,7 @@ abbrev pub Holds : {X : Type 0} → (X → Type 0) → Result X PatchError → T
 Holds P (Ok x) = P x
 Holds P (Err e) = Unit {0}
 
-Holds-map : {X Y : Type 0} (P : X → Type 0) (Q : Y → Type 0) (f : X → Y) → ((x : X) → P x → Q (f x)) → (r : Result X PatchError) → Holds P r → Holds Q (outcome_map f r)
+pub Holds-map : {X Y : Type 0} (P : X → Type 0) (Q : Y → Type 0) (f : X → Y) → ((x : X) → P x → Q (f x)) → (r : Result X PatchError) → Holds P r → Holds Q (outcome_map f r)
 Holds-map P Q f carries (Ok x) h = carries x h
 Holds-map P Q f carries (Err e) h = tt
 
@@ -73,3 +76,9 @@ pub IsOrdered-changed : {A : Type 0} (op : PatchOp) (path : Path) (v t u : Tree 
 IsOrdered-changed {A} op path v t u one ordered leads =
     let P : Result (Tree A) PatchError → Type 0 = λ r. Holds (λ (x : Tree A). IsOrdered x) r in
     subst P leads (changed_ordered op path v t one ordered)
+
+-- a value that was changed in place, or left as it was
+pub stays_ordered : (r : Result (Unit {0}) PatchError) (outcome : Result Value PatchError) (s t : Snap) → Holds (λ u. IsOrdered u) outcome
+    → Answers r outcome (view t) → OnErr r (t ≡ s) → IsOrdered (view s) → IsOrdered (view t)
+stays_ordered (Ok done) outcome s t holds answers kept ordered = let P : Result Value PatchError → Type 0 = λ o. Holds (λ (u : Value). IsOrdered u) o in subst P answers holds
+stays_ordered (Err e) outcome s t holds answers kept ordered = let P : Snap → Type 0 = λ x. IsOrdered (view x) in subst P (sym kept) ordered

@@ -1,10 +1,10 @@
 -- What an operation makes of a value where it fits, by the step that its token is.
-use Rattle.std.proofs.Common.{◌≡◌, ℕ, suc, ◌+◌, ◌≤◌, ◌<◌, List, true, false, Option, Some, None, Result, Ok, refl, sym, ◌∙◌, ap, subst, arith, add-one}
-use Rattle.std.specs.Prelude.{codes, is_some, nat_lt, if◌then◌else◌, option_and_then}
+use Rattle.std.proofs.Common.{◌≡◌, ℕ, ◌+◌, ◌≤◌, ◌<◌, List, true, Some, None, Ok, refl, sym, ap, subst, arith}
+use Rattle.std.specs.Prelude.{codes, nat_lt, option_and_then}
 use Rattle.std.specs.Option.{option_map}
 use Rattle.std.proofs.lemmas.Bool.{lt-ltb}
 use Rattle.snap_core.specs.Value.{Tree, list, dict, value_at}
-use Rattle.snap_core.specs.Level.{Step, at_index, at_key, count_of, item_at, child, set_child, CanInsert, insert_child, remove_child}
+use Rattle.snap_core.specs.Level.{Step, at_index, at_key, count_of, child, set_child, CanInsert, insert_child, remove_child}
 use Rattle.snap_core.proofs.Levels.{same_key, item_at-within}
 use Rattle.pointer_core.specs.Index.{index_of}
 use Rattle.patch_core.specs.Place.{step_of, part_under, index_below, new_index}

@@ -1,8 +1,8 @@
 -- The laws of inverses, for one patch and for a list.
-use Rattle.std.proofs.Common.{◌≡◌, List, [], ◌∷◌, ◌++◌, map, Option, Some, None, Result, Ok, refl, sym, ◌∙◌, subst}
-use Rattle.std.specs.Prelude.{All, reverse}
+use Rattle.std.proofs.Common.{◌≡◌, List, [], ◌∷◌, ◌++◌, map, Option, Some, None, Ok, refl, sym, ◌∙◌, ap, subst}
+use Rattle.std.specs.Prelude.{reverse}
 use Rattle.std.specs.Option.{option_map}
-use Rattle.std.proofs.lemmas.List.{reverse-append}
+use Rattle.std.proofs.lemmas.List.{reverse-append, map-append}
 use Rattle.std.proofs.lemmas.List.Elements.{All-head, All-tail}
 use Rattle.snap_core.specs.Value.{Value, IsOrdered}
 use Rattle.snap_core.specs.View.{view}
@@ -14,7 +14,7 @@ use Rattle.patch_core.specs.Laws.{InverseLeadsBack, ChangesAreTakenBack}
 use Rattle.patch_core.specs.declared.patch.PatchOp.{PatchOp}
 use Rattle.patch_core.specs.declared.patch.PatchOp.TheVariants.{Add, Replace, Remove}
 use Rattle.patch_core.specs.declared.patch.Patch.{Patch}
-use Rattle.patch_core.proofs.Inverses.{PathBack, path_back}
+use Rattle.patch_core.proofs.Inverses.{path_back}
 use Rattle.patch_core.proofs.Ordered.{IsOrdered-changed}
 
 HasValues-view : (op : PatchOp) (value old : Option Snap) → HasValues op value old → HasValues op (option_map view value) (option_map view old)
@@ -40,6 +40,9 @@ LeadsTo-append (p ∷ ps) qs s t u first second = (first.0, first.1, first.2, Le
 
 back-cons : (p : Patch) (ps : List Patch) → back (p ∷ ps) ≡ back ps ++ inverse_of p ∷ []
 back-cons p ps = reverse-append (inverse_of p ∷ []) (map inverse_of ps)
+
+pub back_push : (ps : List Patch) (p : Patch) → back (ps ++ p ∷ []) ≡ inverse_of p ∷ back ps
+back_push ps p = ap reverse (map-append inverse_of ps (p ∷ [])) ∙ reverse-append (map inverse_of ps) (inverse_of p ∷ [])
 
 pub changes_are_taken_back : ChangesAreTakenBack
 changes_are_taken_back [] s t ordered writes leads = sym leads

@@ -1,9 +1,8 @@
 -- What a patch makes of a value.
-use Rattle.std.specs.Prelude.{ℕ, List, [], ◌∷◌, Option, Some, None, unwrap_or, Result, Ok, Err, Bool, is_some, IsSome, if◌then◌else◌}
+use Rattle.std.specs.Prelude.{ℕ, List, [], ◌∷◌, Option, Some, None, unwrap_or, Result, Ok, Err, is_some, IsSome, if◌then◌else◌}
 use Rattle.std.specs.Option.{option_map}
 use Rattle.snap_core.specs.Value.{Value, Tree, TreeItems, TreeFields, null, list, dict, value_at}
 use Rattle.snap_core.specs.View.{view}
-use Rattle.snap_core.specs.declared.snap.Snap.{Snap}
 use Rattle.snap_core.specs.Level.{Step, count_of, set_item, insert_item, remove_item, set_field, insert_field, remove_field, child, set_child}
 use Rattle.pointer_core.specs.Path.{Path}
 use Rattle.patch_core.specs.Place.{step_of, index_below, new_index}
@@ -79,7 +78,7 @@ changed op (token ∷ []) v t = edited op token v t
 changed op (token ∷ next ∷ rest) v t = inside_at token (changed op (next ∷ rest) v) t
 
 -- an operation that writes has the value that it writes
-abbrev pub HasWritten : PatchOp → Option Snap → Type 0
+abbrev pub HasWritten : {X : Type 0} → PatchOp → Option X → Type 0
 HasWritten Add value = IsSome value
 HasWritten Replace value = IsSome value
 HasWritten Remove value = Unit {0}

@@ -1,5 +1,5 @@
 -- Which patches fit a value: each names what it changes, as it is.
-use Rattle.std.specs.Prelude.{◌≡◌, ℕ, List, [], ◌∷◌, Option, Some, None, Result, Ok}
+use Rattle.std.specs.Prelude.{◌≡◌, ℕ, List, [], ◌∷◌, Option, Some, None, Ok}
 use Rattle.std.specs.Option.{option_map}
 use Rattle.snap_core.specs.Value.{Value, Tree}
 use Rattle.snap_core.specs.View.{view}

@@ -3,4 +3,8 @@ pub mod Application
 pub mod Outcome
 pub mod Fits
 pub mod Inverse
+pub mod Printing
+pub mod PathError
+pub mod Reading
+pub mod Drafts
 pub mod Laws

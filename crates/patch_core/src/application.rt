@@ -1,6 +1,6 @@
 //! Patches applied in place.
 ghost use Rattle.std.specs.Prelude.{◌≡◌, ◌≢◌, ◌<◌, length, Ok, Err, OnOk, OnErr, IfErr};
-ghost use Rattle.snap_core.specs.Value.{list, dict, IsOrdered, AreOrdered, AreOrderedMembers};
+ghost use Rattle.snap_core.specs.Value.{list, dict, IsPlain, IsOrdered, AreOrdered, AreOrderedMembers};
 ghost use Rattle.snap_core.specs.View.{view, items_view, fields_view};
 ghost use Rattle.patch_core.specs.Application.{HasValue, written, edited, changed, inside_at, applied};
 ghost use Rattle.patch_core.specs.Outcome.{Answers};
@@ -20,6 +20,8 @@ pub fn apply(alloc: Global, target: &mut Snap, patch: &Patch) -> Result<(), Patc
     ensures ok { OnOk result (applied patch.now (view target.old) ≡ Ok (view target.new)) }
     ensures refused { IfErr result (λ error. error ≢ PatchError.Memory → applied patch.now (view target.old) ≡ Err error) }
     ensures unchanged { OnErr result (target.new ≡ target.old) }
+    ensures ordered { IsOrdered (written patch.now) → IsOrdered (view target.new) }
+    ensures plain { IsPlain (written patch.now) → IsPlain (view target.old) → IsPlain (view target.new) }
 {
     change(alloc, target, patch.path.tokens(), patch)
 }

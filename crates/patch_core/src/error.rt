@@ -1,3 +1,4 @@
+use pointer_core::PointerError;
 use std::alloc::AllocError;
 
 /// Why a patch wasn't applied, or a list of patches wasn't read.
@@ -27,5 +28,19 @@ impl From<AllocError> for PatchError {
 
     fn from(_refused: AllocError) -> PatchError {
         PatchError::Memory
+    }
+}
+
+impl From<PointerError> for PatchError {
+    ghost use Rattle.std.specs.Prelude.{◌≡◌};
+    ghost use Rattle.patch_core.specs.PathError.{path_error};
+
+    ghost from_gives = { λ p e. e ≡ path_error p };
+
+    fn from(error: PointerError) -> PatchError {
+        match error {
+            PointerError::Memory => PatchError::Memory,
+            PointerError::NoSlash | PointerError::BadTilde { .. } => PatchError::Pointer,
+        }
     }
 }

@@ -1,16 +1,21 @@
 -- The faults that the first pass over a schema file finds, in form, names, repetitions and the length of the history, in document order. The first counts: one that stands behind another may come of it.
-use Rattle.std.specs.Prelude.{ℕ, ◌+◌, pos, int_le, List, [], ◌∷◌, ◌++◌, map, codes, decimal, Bool, ◌&&◌, ◌||◌, not, is_some, Option, Some, None, if◌then◌else◌}
+use Rattle.std.specs.Prelude.{ℕ, ◌+◌, ℤ, pos, int_le, List, [], ◌∷◌, ◌++◌, map, codes, decimal, Bool, true, false, ◌&&◌, not, is_some, is_none, Option, Some, None, if◌then◌else◌}
+use Rattle.std.specs.List.{list_any}
 use Rattle.std.specs.Ordering.{int_eq}
 use Rattle.std.specs.Str.{bytes_eq}
 use Rattle.snap_core.specs.Name.{is_name}
 use Rattle.snap_core.specs.Value.{Value, integer, text, list, dict, no_parts, part, no_members, member, value_at, is_whole, Items, Fields}
 use Rattle.pointer_core.specs.declared.schema_rule.SchemaRule.{SchemaRule}
 use Rattle.pointer_core.specs.declared.schema_rule.SchemaRule.TheVariants.{Shape, Name, Twice, History}
+use Rattle.type_core.specs.declared.shape.Condition.{Condition}
+use Rattle.type_core.specs.declared.shape.Condition.TheVariants.{Min, Max, MinLength, MaxLength, StartsWith}
 use Rattle.schema_form.specs.declared.fault.Fault.{Fault}
 use Rattle.schema_form.specs.declared.words.Form.{Form}
-use Rattle.schema_form.specs.declared.words.Form.TheVariants.{Literal, Enumeration, Optional, Union, Refinement, Around, Unknown}
-use Rattle.schema_form.specs.declared.base.Base.{Base}
-use Rattle.schema_form.specs.Forms.{form_of, is_word, is_taken, plain_words, identifier_words, has_key, base_of, is_condition}
+use Rattle.schema_form.specs.declared.words.Form.TheVariants as form
+use Rattle.schema_form.specs.declared.bases.Base.{Base}
+use Rattle.schema_form.specs.declared.bases.Base.TheVariants.{Texts, Integers}
+use Rattle.schema_form.specs.Words.{plain_of, form_of}
+use Rattle.schema_form.specs.Names.{has_key, base_of}
 
 -- a rule that isn't met at the place itself
 abbrev pub here : SchemaRule → List Fault
@@ -54,66 +59,121 @@ literal_faults (list a ps) = here Shape
 literal_faults (dict a ms) = here Shape
 literal_faults v = number_faults v
 
+-- a text among some texts
+abbrev pub is_among : List (List ℕ) → List ℕ → Bool
+is_among texts s = list_any (bytes_eq s) texts
+
 -- an enumeration lists texts, none twice; those that stand earlier are given
 abbrev pub texts_faults : List (List ℕ) → ℕ → Items → List Fault
 texts_faults earlier i no_parts = []
-texts_faults earlier i (part (text s) ps) = under (decimal i) (unless (not (is_word earlier s)) Twice) ++ texts_faults (s ∷ earlier) (i + 1) ps
+texts_faults earlier i (part (text s) ps) = under (decimal i) (unless (not (is_among earlier s)) Twice) ++ texts_faults (s ∷ earlier) (i + 1) ps
 texts_faults earlier i (part v ps) = under (decimal i) (here Shape) ++ texts_faults earlier (i + 1) ps
+
+abbrev pub enumeration_faults : Value → List Fault
+enumeration_faults (list a (part t ps)) = texts_faults [] 0 (part t ps)
+enumeration_faults _ = here Shape
+
+-- a text that must be the name of one of the types
+abbrev pub name_faults : Fields → Value → List Fault
+name_faults types (text s) = unless (has_key s types) Name
+name_faults types _ = here Shape
+
+-- a word stands for a plain type, or for a type of the schema
+abbrev pub word_faults : Fields → List ℕ → List Fault
+word_faults types s = if is_some (plain_of s) then [] else unless (has_key s types) Name
 
 -- the base of a refinement is "string" or "integer", or a name that leads to one of them
 abbrev pub base_faults : Fields → Value → List Fault
-base_faults types (text s) = if is_taken s || has_key s types then unless (is_some (base_of types (text s))) Shape else here Name
+base_faults types (text s) = word_faults types s ++ unless (is_some (base_of types s)) Shape
 base_faults types _ = here Shape
 
--- each condition is one of the base's kind
+abbrev pub base_in : Fields → Value → Option Base
+base_in types (text s) = base_of types s
+base_in types _ = None
+
+-- the condition under a key, which is one of the base's kind
+abbrev pub bound : (ℤ → Condition) → ℤ → Option Condition
+bound condition z = if is_whole z then Some (condition z) else None
+
+abbrev pub condition_of : Option Base → List ℕ → Value → Option Condition
+condition_of (Some Integers) key (integer z) =
+    if bytes_eq key (codes "min") then bound Min z
+    else if bytes_eq key (codes "max") then bound Max z
+    else None
+condition_of (Some Texts) key (integer z) =
+    if bytes_eq key (codes "minLength") then bound MinLength z
+    else if bytes_eq key (codes "maxLength") then bound MaxLength z
+    else None
+condition_of (Some Texts) key (text s) = if bytes_eq key (codes "startsWith") then Some (StartsWith s) else None
+condition_of _ key v = None
+
 abbrev pub condition_faults : Option Base → List ℕ → Value → List Fault
-condition_faults base k v = if is_condition base k v then number_faults v else here Shape
+condition_faults base k v = unless (is_some (condition_of base k v)) Shape
 
 abbrev pub conditions_faults : Option Base → Value → List Fault
 conditions_faults base (dict a ms) = member_faults (condition_faults base) ms
 conditions_faults base _ = here Shape
 
--- a word stands for a plain type, or for a type of the schema
-abbrev pub word_faults : Fields → List ℕ → List Fault
-word_faults types s = if is_word plain_words s then [] else unless (has_key s types) Name
+-- a refinement has a base and conditions
+abbrev pub refinement_faults : Fields → Value → List Fault
+refinement_faults types (list a (part t (part cs no_parts))) = under (codes "0") (base_faults types t) ++ under (codes "1") (conditions_faults (base_in types t) cs)
+refinement_faults types _ = here Shape
 
 -- the faults of some items, from this index on
 abbrev pub numbered : ℕ → List (List Fault) → List Fault
 numbered i [] = []
 numbered i (f ∷ fs) = under (decimal i) f ++ numbered (i + 1) fs
 
--- the faults of an object with one key, by its form: `inner` has those of its value and `items` those of its value's items, each as a type expression
-abbrev pub form_faults : Fields → List Fault → List ℕ → Form → Value → List Fault → List (List Fault) → List Fault
-form_faults types key k Unknown v inner items = here Shape
-form_faults types key k Around v inner items = key ++ under k inner
-form_faults types key k Literal v inner items = key ++ under k (literal_faults v)
-form_faults types key k Enumeration (list a (part t ps)) inner items = key ++ under k (texts_faults [] 0 (part t ps))
-form_faults types key k Optional (list a (part t (part d no_parts))) inner (one ∷ rest) =
-    key ++ under k (under (codes "0") one ++ under (codes "1") (number_faults d))
-form_faults types key k Union (list a (part t (part u ps))) inner items = key ++ under k (numbered 0 items)
-form_faults types key k Refinement (list a (part t (part cs no_parts))) inner items =
-    key ++ under k (under (codes "0") (base_faults types t) ++ under (codes "1") (conditions_faults (base_of types t) cs))
-form_faults types key k form v inner items = key ++ under k (here Shape)
+-- the faults of what stands under the key of a form: `inner` has those of it and `items` those of its items, each as a type expression
+abbrev pub form_faults : Fields → Form → Value → List Fault → List (List Fault) → List Fault
+form_faults types (form.Holder h) v inner items = inner
+form_faults types form.Literal v inner items = literal_faults v
+form_faults types form.Enumeration v inner items = enumeration_faults v
+form_faults types form.Optional (list a (part t (part d no_parts))) inner (one ∷ rest) = under (codes "0") one ++ under (codes "1") (number_faults d)
+form_faults types form.Union (list a (part t (part u ps))) inner items = numbered 0 items
+form_faults types form.Refinement v inner items = refinement_faults types v
+form_faults types form.Reference v inner items = name_faults types v
+form_faults types form.SafeReference v inner items = name_faults types v
+form_faults types _ v inner items = here Shape
+
+-- the faults of an object with one key, of the form that it stands for
+abbrev pub keyed_faults : Fields → List ℕ → Option Form → Value → List Fault → List (List Fault) → List Fault
+keyed_faults types k (Some form) v inner items = under k (form_faults types form v inner items)
+keyed_faults types k None v inner items = here Shape
 
 abbrev mutual
-  -- The faults of a type expression, with those of its key, if it stands under one: its form comes first, then its key, then its word, then its parts.
-  pub type_faults : Fields → Value → List Fault → List Fault
-  type_faults types (text s) key = if is_word identifier_words s then here Shape else key ++ word_faults types s
-  type_faults types (dict a (member k v no_members)) key = form_faults types key k (form_of k) v (type_faults types v []) (item_faults types v)
-  type_faults types _ key = here Shape
+  -- the faults of a type expression
+  pub type_faults : Fields → Value → List Fault
+  type_faults types (text s) = word_faults types s
+  type_faults types (dict a (member k v no_members)) = keyed_faults types k (form_of k) v (type_faults types v) (item_faults types v)
+  type_faults types _ = here Shape
 
   -- the faults of each item of a list, as a type expression
   pub item_faults : Fields → Value → List (List Fault)
-  item_faults types (list a ps) = parts_as_types types ps
+  item_faults types (list a ps) = parts_faults types ps
   item_faults types _ = []
 
-  pub parts_as_types : Fields → Items → List (List Fault)
-  parts_as_types types no_parts = []
-  parts_as_types types (part v ps) = type_faults types v [] ∷ parts_as_types types ps
+  pub parts_faults : Fields → Items → List (List Fault)
+  parts_faults types no_parts = []
+  parts_faults types (part v ps) = type_faults types v ∷ parts_faults types ps
+
+-- the faults of what stands under the key of a form
+abbrev pub inside_faults : Fields → Form → Value → List Fault
+inside_faults types form v = form_faults types form v (type_faults types v) (item_faults types v)
+
+-- whether a value is a text or an object whose key stands for a form, whatever stands in it
+abbrev pub is_expression : Value → Bool
+is_expression (text s) = true
+is_expression (dict a (member k v no_members)) = is_some (form_of k)
+is_expression _ = false
+
+-- the fault of the key that an expression stands under, which comes after that of its own form and before those of its parts
+abbrev pub key_faults : Bool → Bool → List Fault
+key_faults is_formed is_good = if is_formed then unless is_good Name else []
 
 -- the properties of a model are type expressions under names
 abbrev pub property_faults : Fields → List ℕ → Value → List Fault
-property_faults types k v = type_faults types v (unless (is_name k) Name)
+property_faults types k v = key_faults (is_expression v) (is_name k) ++ type_faults types v
 
 abbrev pub properties_faults : Fields → Value → List Fault
 properties_faults types (dict a ms) = member_faults (property_faults types) ms
@@ -127,24 +187,24 @@ abbrev pub model_faults : Fields → Value → List Fault
 model_faults types (dict a ms) = unless (has_key (codes "properties") ms) Shape ++ member_faults (model_part_faults types) ms
 model_faults types _ = here Shape
 
--- an entry of the types is a model or a type expression
-abbrev pub entry_faults : Fields → Value → List Fault → List Fault
-entry_faults types (dict a (member k v no_members)) key =
-    if bytes_eq k (codes "model") then key ++ under k (model_faults types v) else type_faults types (dict a (member k v no_members)) key
-entry_faults types v key = type_faults types v key
+-- the model that an entry of the types is, if it is one
+abbrev pub model_in : Value → Option Value
+model_in (dict a (member k v no_members)) = if bytes_eq k (codes "model") then Some v else None
+model_in _ = None
 
--- under a name of its own
-abbrev pub named_faults : Fields → List ℕ → Value → List Fault
-named_faults types k v = entry_faults types v (unless (is_name k && not (is_taken k)) Name)
+-- an entry of the types is a model or a type expression, under a name of its own
+abbrev pub is_free : List ℕ → Bool
+is_free k = is_name k && is_none (plain_of k)
+
+abbrev pub entry_faults : Fields → List ℕ → Value → List Fault
+entry_faults types k v = by_model (model_in v) where
+  by_model : Option Value → List Fault
+  by_model (Some model) = unless (is_free k) Name ++ under (codes "model") (model_faults types model)
+  by_model None = key_faults (is_expression v) (is_free k) ++ type_faults types v
 
 abbrev pub types_faults : Value → List Fault
-types_faults (dict a ms) = member_faults (named_faults ms) ms
+types_faults (dict a ms) = member_faults (entry_faults ms) ms
 types_faults _ = here Shape
-
--- the root is the name of one of the types
-abbrev pub root_faults : Fields → Value → List Fault
-root_faults types (text s) = unless (has_key s types) Name
-root_faults types _ = here Shape
 
 -- the history is 0 to 100 entries long
 abbrev pub history_faults : Value → List Fault
@@ -173,7 +233,7 @@ abbrev pub part_faults : Fields → List ℕ → Value → List Fault
 part_faults types k v =
     if bytes_eq k (codes "history") then history_faults v
     else if bytes_eq k (codes "host") then host_faults v
-    else if bytes_eq k (codes "root") then root_faults types v
+    else if bytes_eq k (codes "root") then name_faults types v
     else if bytes_eq k (codes "types") then types_faults v
     else here Shape
 

@@ -1,3 +1,7 @@
-pub mod Forms
+pub mod Words
+pub mod Names
 pub mod Faults
-pub mod Inside
+pub mod Layout
+pub mod Pointers
+pub mod Form
+pub mod Outcome

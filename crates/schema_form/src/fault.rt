@@ -1,8 +1,30 @@
 use pointer_core::{Pointer, SchemaRule};
+use std::alloc::AllocError;
 
 /// A rule of schemas that isn't met, and the place in the file where.
 #[derive(Debug, Drop)]
 pub struct Fault {
     pub path: Pointer,
     pub rule: SchemaRule,
+}
+
+/// Why a schema file has no form.
+#[derive(Debug, Drop, thiserror::Error)]
+pub enum FormError {
+    #[error("out of memory")]
+    Memory,
+    /// The first fault.
+    #[error("a schema at fault")]
+    Wrong(Fault),
+}
+
+impl From<AllocError> for FormError {
+    ghost use Rattle.std.specs.Prelude.{◌≡◌};
+    ghost use Rattle.schema_form.specs.declared.fault.FormError.TheVariants.{Memory};
+
+    ghost from_gives = { λ _ e. e ≡ Memory };
+
+    fn from(_refused: AllocError) -> FormError {
+        FormError::Memory
+    }
 }

@@ -1,18 +1,17 @@
 //! The form of schema files: their first fault in form, names, repetitions and the length of the history.
 #![tactic(auto)]
 
-mod base;
-mod enumerations;
-mod expressions;
+mod bases;
 mod fault;
 mod file;
-mod models;
-mod numbers;
-mod place;
-mod refinements;
+mod form;
+mod pointer;
 mod words;
 
-pub use fault::Fault;
-pub use file::{entries_of, first_fault};
-pub use models::model_in;
-pub use words::{Form, form_of};
+pub use fault::{Fault, FormError};
+pub use file::read_form;
+pub use form::{
+    Entry, EntryNo, Expression, Expressions, Holder, Kind, ModelForm, Place, Plain, SchemaForm,
+    Step, Word,
+};
+pub use pointer::{Laid, pointer_to, taken_apart};

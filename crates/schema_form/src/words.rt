@@ -1,31 +1,22 @@
 //! The words of schema files.
 ghost use Rattle.std.specs.Prelude.{◌≡◌};
-ghost use Rattle.schema_form.specs.Forms as forms;
+ghost use Rattle.schema_form.specs.Words as words;
 
-/// Whether a word stands for a type, so that no type of a schema may have it as its name.
-pub fn is_taken(word: &str) -> bool
-    ensures { result ≡ forms.is_taken word.now }
-{
-    is_plain(word) || is_identifier(word)
-}
+use crate::form::{Holder, Plain};
 
-/// Whether a word stands for a type without parts.
-pub fn is_plain(word: &str) -> bool
-    ensures { result ≡ forms.is_word forms.plain_words word.now }
+/// The plain type that a word stands for. No type of a schema may have such a word as its name.
+pub fn plain_of(word: &str) -> Option<Plain>
+    ensures { result ≡ words.plain_of word.now }
 {
     match word {
-        "string" | "integer" | "boolean" | "null" | "frozen" => true,
-        _ => false,
-    }
-}
-
-/// Whether a word stands for a type that isn't built yet.
-pub fn is_identifier(word: &str) -> bool
-    ensures { result ≡ forms.is_word forms.identifier_words word.now }
-{
-    match word {
-        "identifier" | "identifierNumber" => true,
-        _ => false,
+        "string" => Some(Plain::Text),
+        "integer" => Some(Plain::Integer),
+        "boolean" => Some(Plain::Boolean),
+        "null" => Some(Plain::Null),
+        "frozen" => Some(Plain::Frozen),
+        "identifier" => Some(Plain::Identifier),
+        "identifierNumber" => Some(Plain::IdentifierNumber),
+        _ => None,
     }
 }
 
@@ -37,23 +28,27 @@ pub enum Form {
     Optional,
     Union,
     Refinement,
-    /// `maybe`, `maybeNull`, `array` and `map`, which hold one type expression.
-    Around,
-    /// Any other key.
-    Unknown,
+    Reference,
+    SafeReference,
+    Holder(Holder),
 }
 
 /// The form that a key stands for.
-pub fn form_of(key: &str) -> Form
-    ensures { result ≡ forms.form_of key.now }
+pub fn form_of(key: &str) -> Option<Form>
+    ensures { result ≡ words.form_of key.now }
 {
     match key {
-        "literal" => Form::Literal,
-        "enumeration" => Form::Enumeration,
-        "optional" => Form::Optional,
-        "union" => Form::Union,
-        "refinement" => Form::Refinement,
-        "maybe" | "maybeNull" | "array" | "map" => Form::Around,
-        _ => Form::Unknown,
+        "literal" => Some(Form::Literal),
+        "enumeration" => Some(Form::Enumeration),
+        "optional" => Some(Form::Optional),
+        "union" => Some(Form::Union),
+        "refinement" => Some(Form::Refinement),
+        "reference" => Some(Form::Reference),
+        "safeReference" => Some(Form::SafeReference),
+        "maybe" => Some(Form::Holder(Holder::Maybe)),
+        "maybeNull" => Some(Form::Holder(Holder::MaybeNull)),
+        "array" => Some(Form::Holder(Holder::Array)),
+        "map" => Some(Form::Holder(Holder::Map)),
+        _ => None,
     }
 }

@@ -1,56 +1,87 @@
--- Only the types of expressions can be at fault: a model's own type leads nowhere, is no union and not optional.
-use Rattle.std.proofs.Common.{◌≡◌, ℕ, zero, suc, ◌+◌, ◌-◌, ◌<◌, ◌≤◌, List, [], ◌∷◌, ◌++◌, length, slice_get, Some, sym, subst, inl, inr, arith}
-use Rattle.std.specs.Prelude.{Contains}
+-- Only the types of expressions can be at fault: a model's own type leads nowhere, and is no identifier, no reference, no union and not optional.
+use Rattle.std.proofs.Common.{◌≡◌, ℕ, zero, suc, ◌+◌, ◌-◌, ◌<◌, ◌≤◌, List, [], ◌∷◌, ◌++◌, length, map, slice_get, true, false, Option, Some, None, sym, subst, refl, inl, inr, arith, ◌∙◌}
+use Rattle.std.specs.Prelude.{◌⊎◌, Contains}
 use Rattle.std.proofs.lemmas.Bool.{cases_lt}
+use Rattle.std.proofs.lemmas.List.{length-map}
 use Rattle.std.proofs.lemmas.Option.{same_Some}
-use Rattle.snap_core.specs.Value.{Fields}
 use Rattle.snap_core.specs.declared.number.TypeNo.{TypeNo}
 use Rattle.snap_core.specs.declared.number.ModelNo.{ModelNo}
 use Rattle.pointer_core.specs.declared.schema_rule.SchemaRule.{SchemaRule}
 use Rattle.type_core.specs.declared.shape.Shape.{Shape}
 use Rattle.type_core.specs.declared.shape.Shape.TheVariants as shape
-use Rattle.type_core.specs.declared.shape.ModelType.{ModelType}
-use Rattle.type_core.specs.Table.{shape_at, leads_of}
+use Rattle.type_core.specs.Table.{Table, shape_at, leads_of}
 use Rattle.type_core.specs.Names.{LeadsTo}
-use Rattle.type_core.specs.Faults.{HasFault, name, union, «default»}
-use Rattle.schema_read.specs.Types.{expression_shapes, own_shapes, models_in, table_of}
+use Rattle.type_core.specs.Identifiers.{is_misplaced, misleads}
+use Rattle.type_core.specs.Faults.{HasFault, name, identifier, target, union, «default»}
+use Rattle.schema_form.specs.declared.form.SchemaForm.{SchemaForm}
+use Rattle.schema_form.specs.declared.form.Expression.{Expression}
+use Rattle.schema_form.specs.declared.form.ModelForm.{ModelForm}
+use Rattle.schema_form.specs.Pointers.{places_of}
+use Rattle.schema_read.specs.Types.{kind_shape, own_shapes, kinds_of, table_of}
+
+-- a shape that is a model's own, if it is one
+abbrev IsOwn : Option Shape → Type 0
+IsOwn None = Unit {0}
+IsOwn (Some (shape.Model m)) = Unit {0}
+IsOwn _ = ⊥
 
 -- what stands among the models' own types is a model
-own_shape : (m : ℕ) (models : List ModelType) (i : ℕ) (s : Shape) → slice_get (own_shapes m models) i ≡ Some s → (l : ModelNo) × (s ≡ shape.Model l)
-own_shape m [] i s h = cc
-own_shape m (model ∷ models) zero s h = (record { 0 = m }, sym (same_Some (shape.Model (record { 0 = m })) s h))
-own_shape m (model ∷ models) (suc i) s h = own_shape (m + 1) models i s h
+own_shape : (m : ℕ) (models : List ModelForm) (i : ℕ) → IsOwn (slice_get (own_shapes m models) i)
+own_shape m [] i = tt
+own_shape m (model ∷ models) zero = tt
+own_shape m (model ∷ models) (suc i) = own_shape (m + 1) models i
 
 -- what stands past the first list stands in the second
-slice_get-past : {X : Type 0} (xs ys : List X) (i : ℕ) (x : X) → length xs ≤ i → slice_get (xs ++ ys) i ≡ Some x → slice_get ys (i - length xs) ≡ Some x
-slice_get-past [] ys i x past h = let e : i - 0 ≡ i = omega arith in rw e h
-slice_get-past (y ∷ xs) ys zero x past h = absurd (omega arith)
-slice_get-past (y ∷ xs) ys (suc i) x past h =
+slice_get-past : {X : Type 0} (xs ys : List X) (i : ℕ) → length xs ≤ i → slice_get (xs ++ ys) i ≡ slice_get ys (i - length xs)
+slice_get-past [] ys i past = let e : i - 0 ≡ i = omega arith in rw e refl
+slice_get-past (y ∷ xs) ys zero past = absurd (omega arith)
+slice_get-past (y ∷ xs) ys (suc i) past =
     let e : suc i - suc (length xs) ≡ i - length xs = omega arith in
-    rw e (slice_get-past xs ys i x (omega arith) h)
+    rw e (slice_get-past xs ys i (omega arith))
 
--- a type that is no model is one of the expressions'
-no_model : (types : Fields) (t : ℕ) (s : Shape) → shape_at (table_of types) t ≡ Some s → ((l : ModelNo) → s ≡ shape.Model l → ⊥)
-    → t < length (expression_shapes types)
-no_model types t s at other = elim (cases_lt t (length (expression_shapes types))) [
-  | inl below ↦ below
-  | inr past ↦
-      let own = own_shape 0 (models_in types) (t - length (expression_shapes types)) s
-      (slice_get-past (expression_shapes types) (own_shapes 0 (models_in types)) t s past at) in
-      absurd (other own.0 own.1)
+-- a model's own type leads nowhere
+no_lead : (table : Table) (t : ℕ) (s : Shape) (u : TypeNo) → IsOwn (shape_at table t) → shape_at table t ≡ Some s → Contains (leads_of s) u → ⊥
+no_lead table t s u own is leads = by_shape s (subst IsOwn is own) leads where
+  by_shape : (s : Shape) → IsOwn (Some s) → Contains (leads_of s) u → ⊥
+  by_shape (shape.Model m) own leads = omega (arith, leads.1)
+  by_shape _ own leads = own
+
+-- nor is it an identifier or a reference
+own_cases : (o : Option Shape) → IsOwn o → (o ≡ None) ⊎ ((m : ModelNo) × (o ≡ Some (shape.Model m)))
+own_cases None own = inl refl
+own_cases (Some (shape.Model m)) own = inr (m, refl)
+own_cases (Some _) own = absurd own
+
+own_placed : (table : Table) (t : ℕ) → IsOwn (shape_at table t) → is_misplaced table t ≡ true → ⊥
+own_placed table t own h = elim (own_cases (shape_at table t) own) [
+  | inl e ↦ let placed : is_misplaced table t ≡ false = rw e refl in cc
+  | inr model ↦ let placed : is_misplaced table t ≡ false = rw model.1 refl in cc
 ]
 
-no_lead : (s : Shape) (u : TypeNo) (l : ModelNo) → Contains (leads_of s) u → s ≡ shape.Model l → ⊥
-no_lead s u l leads is =
-    let P : Shape → Type 0 = λ q. Contains (leads_of q) u in
-    let none : Contains [] u = subst P is leads in
-    omega (arith, none.1)
+own_led : (table : Table) (t : ℕ) → IsOwn (shape_at table t) → misleads table t ≡ true → ⊥
+own_led table t own h = elim (own_cases (shape_at table t) own) [
+  | inl e ↦ let led : misleads table t ≡ false = rw e refl in cc
+  | inr model ↦ let led : misleads table t ≡ false = rw model.1 refl in cc
+]
 
-LeadsTo-expression : (types : Fields) (t u : ℕ) → LeadsTo (table_of types) t u → t < length (expression_shapes types)
-LeadsTo-expression types _ _ (LeadsTo.at_once t s u is leads) = no_model types t s is (λ l. no_lead s u l leads)
-LeadsTo-expression types _ _ (LeadsTo.by_way t s u w is leads on) = no_model types t s is (λ l. no_lead s u l leads)
+not_own : (table : Table) (t : ℕ) (rule : SchemaRule) → HasFault table t rule → IsOwn (shape_at table t) → ⊥
+not_own table _ _ (name t (LeadsTo.at_once _ s u is leads)) own = no_lead table t s u own is leads
+not_own table _ _ (name t (LeadsTo.by_way _ s u w is leads on)) own = no_lead table t s u own is leads
+not_own table _ _ (identifier t misplaced) own = own_placed table t own misplaced
+not_own table _ _ (target t misled) own = own_led table t own misled
+not_own table _ _ (union t ms is apart) own = subst IsOwn is own
+not_own table _ _ («default» t u d is none) own = subst IsOwn is own
 
-pub HasFault-expression : (types : Fields) (t : ℕ) (rule : SchemaRule) → HasFault (table_of types) t rule → t < length (expression_shapes types)
-HasFault-expression types _ _ (name t back) = LeadsTo-expression types t t back
-HasFault-expression types _ _ (union t ms is apart) = no_model types t (shape.Union ms) is (λ l e. cc)
-HasFault-expression types _ _ («default» t u d is none) = no_model types t (shape.Optional u d) is (λ l e. cc)
+-- a type at fault is that of an expression
+pub HasFault-expression : (form : SchemaForm) (t : ℕ) (rule : SchemaRule) → HasFault (table_of form) t rule → t < length (places_of form.expressions)
+HasFault-expression form t rule fault =
+    let shapes : List Shape = map (kind_shape form.entries) (kinds_of form.expressions) in
+    let count : length shapes ≡ length (places_of form.expressions) =
+    length-map (kinds_of form.expressions) (kind_shape form.entries) ∙ length-map form.expressions (λ (e : Expression). e.kind)
+    ∙ sym (length-map form.expressions (λ (e : Expression). e.place)) in
+    elim (cases_lt t (length shapes)) [
+      | inl below ↦ omega (arith, below, count)
+      | inr past ↦
+          let own = subst IsOwn (sym (slice_get-past shapes (own_shapes 0 form.models) t past)) (own_shape 0 form.models (t - length shapes)) in
+          absurd (not_own (table_of form) t rule fault own)
+    ]

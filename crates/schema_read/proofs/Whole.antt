@@ -1,83 +1,161 @@
--- The shapes of all type expressions of a file without faults are shapes of the plan that they are put into.
-use Rattle.std.proofs.Common.{◌≡◌, ℕ, ◌+◌, ◌<◌, ◌≤◌, List, [], ◌++◌, length, codes, true, false, if◌then◌else◌, Some, None, refl, inl, inr, subst, arith, length-append}
-use Rattle.std.specs.Prelude.{All}
+-- The types of a whole form can be put together, and its root is one of its models.
+use Rattle.std.proofs.Common.{◌≡◌, ℕ, suc, ◌+◌, ◌<◌, ◌≤◌, List, [], ◌∷◌, ◌++◌, length, map, slice_get, get_or, Option, Some, None, All, refl, sym, ap, ◌∙◌, subst, arith, length-append}
 use Rattle.std.specs.Option.{option_map}
-use Rattle.std.specs.Str.{bytes_eq}
-use Rattle.std.proofs.lemmas.List.Elements.{All-nil, All-cons, All-append, All-weaker}
-use Rattle.std.proofs.lemmas.Option.{same_Some}
-use Rattle.snap_core.specs.Value.{Value, dict, no_members, member, IsOrdered, AreOrderedMembers, Fields}
+use Rattle.std.proofs.lemmas.List.{length-map}
+use Rattle.std.proofs.lemmas.Option.{slice_get-get_or, slice_get-map, same_Some}
+use Rattle.std.proofs.lemmas.List.Elements.{All-nil, All-cons, All-head, All-tail, All-weaker, All-get_or}
+use Rattle.snap_core.specs.declared.number.TypeNo.{TypeNo}
+use Rattle.snap_core.specs.declared.number.ModelNo.{ModelNo}
 use Rattle.type_core.specs.declared.shape.Shape.{Shape}
 use Rattle.type_core.specs.declared.shape.Shape.TheVariants as shape
-use Rattle.type_core.specs.declared.shape.ModelType.{ModelType}
-use Rattle.type_core.specs.Table.{Plan, IsShapeOf}
-use Rattle.schema_form.specs.declared.fault.Fault.{Fault}
-use Rattle.schema_form.specs.Forms.{has_key}
-use Rattle.schema_form.specs.Faults.{member_faults, property_faults, entry_faults, named_faults}
-use Rattle.schema_read.specs.Types.{Numbers, in_turn, value_shapes, properties_in, model_in, entry_shapes, next_model, entries_shapes, numbers_of, expression_shapes, models_in}
-use Rattle.schema_read.proofs.Formed.{entry_cases, property_parts, entries_parts}
-use Rattle.schema_read.proofs.Numbers.{numbers_of-below}
-use Rattle.schema_read.proofs.ModelNumbers.{model_count, next_model-sum, length-models_of}
-use Rattle.schema_read.proofs.Within.{IsWithin, AreWithin, EachFit, AreFit-shapes_of, in_turn_within, plain_shape}
+use Rattle.type_core.specs.Table.{Plan, NamesModel, HoldsPlain, IsShapeOf, AreTyped, plan_of, leads_of, parts_of}
+use Rattle.schema_form.specs.declared.form.SchemaForm.{SchemaForm}
+use Rattle.schema_form.specs.declared.form.Entry.{Entry}
+use Rattle.schema_form.specs.declared.form.EntryNo.{EntryNo}
+use Rattle.schema_form.specs.declared.form.Expression.{Expression}
+use Rattle.schema_form.specs.declared.form.ModelForm.{ModelForm}
+use Rattle.schema_form.specs.declared.form.Word.TheVariants as word
+use Rattle.schema_form.specs.declared.form.Plain.{Plain}
+use Rattle.schema_form.specs.declared.form.Plain.TheVariants.{Text}
+use Rattle.schema_form.specs.declared.form.Holder.{Holder}
+use Rattle.schema_form.specs.declared.form.Holder.TheVariants.{Maybe, MaybeNull, Array, Map}
+use Rattle.schema_form.specs.declared.form.Kind.{Kind}
+use Rattle.schema_form.specs.declared.form.Kind.TheVariants as kind
+use Rattle.schema_form.specs.Form.{IsWhole, IsKindIn}
+use Rattle.schema_read.specs.Types.{type_of, plain_shape, holder_shape, kind_shape, models_from, own_shapes, kinds_of, put_together, table_of, as_model, root_of}
+use Rattle.schema_read.specs.Assembly.{NamesEntry, IsKindOf, IsFit, AreWhole}
 
--- the properties of a model in order are in order
-AreOrderedMembers-properties_in : (v : Value) → IsOrdered v → AreOrderedMembers (properties_in v)
-AreOrderedMembers-properties_in (dict a (member k (dict b ms) no_members)) ordered = ordered.0
-AreOrderedMembers-properties_in v ordered = tt
+All-at : {X : Type 0} (P : X → Type 0) (xs : List X) → ((n : ℕ) (x : X) → slice_get xs n ≡ Some x → P x) → All P xs
+All-at P xs h k d lt = h k (get_or xs k d) (slice_get-get_or xs k d lt)
 
-pub AreOrderedMembers-model_in : (v : Value) (ps : Fields) → model_in v ≡ Some ps → IsOrdered v → AreOrderedMembers ps
-AreOrderedMembers-model_in (dict a (member k v no_members)) ps h ordered =
-    elim (bytes_eq k (codes "model")) as (λ b. option_map properties_in (if b then Some v else None) ≡ Some ps → AreOrderedMembers ps) [
-      | true ↦ λ e. let same : properties_in v ≡ ps = same_Some (properties_in v) ps e in
-          let P : Fields → Type 0 = AreOrderedMembers in subst P same (AreOrderedMembers-properties_in v ordered.0)
-      | false ↦ λ e. cc
-    ] h
-AreOrderedMembers-model_in v ps h ordered = cc
+All-map : {X Y : Type 0} (f : X → Y) (P : Y → Type 0) (xs : List X) → All (λ x. P (f x)) xs → All P (map f xs)
+All-map f P [] h = All-nil P
+All-map f P (x ∷ xs) h = All-cons P (f x) (map f xs) (All-head (λ x. P (f x)) x xs h) (All-map f P xs (All-tail (λ x. P (f x)) x xs h))
 
-module _ (count : ℕ) (models : List ModelType) (types : Fields) (numbers : Numbers) (known : (s : List ℕ) → has_key s types ≡ true → numbers s < count) where
-  pub EachFit-value_shapes : (ps : Fields) → member_faults (property_faults types) ps ≡ [] → AreOrderedMembers ps → EachFit count models (value_shapes numbers ps)
-  EachFit-value_shapes no_members h ordered = tt
-  EachFit-value_shapes (member k v ms) h ordered =
-      let none = property_parts types k v ms h in
-      (AreFit-shapes_of count models types numbers known v _ none.1 ordered.0, EachFit-value_shapes ms none.2 ordered.2)
+pub length-models_from : (own : ℕ) (models : List ModelForm) → length (models_from own models) ≡ length models
+length-models_from own [] = refl
+length-models_from own (m ∷ ms) = ap (λ n. suc n) (length-models_from (own + 1) ms)
 
-  pub entry_within : (v : Value) (key : List Fault) (m n : ℕ) → entry_faults types v key ≡ [] → IsOrdered v
-      → n + length (entry_shapes numbers m v n) ≤ count → next_model m v ≤ length models → AreWithin count models (entry_shapes numbers m v n)
-  entry_within v key m n h ordered end last = elim (entry_cases types v key h) [
-    | inl c ↦
-        let room = rw c.1 at end in
-        let below = rw c.1 at last in
-        rw c.1 (All-cons (IsWithin count models) (shape.Model (record { 0 = m })) (in_turn (value_shapes numbers c.0) (n + 1))
-        (plain_shape count models (shape.Model (record { 0 = m })) (omega arith) refl refl tt)
-        (in_turn_within count models (value_shapes numbers c.0) (n + 1) (EachFit-value_shapes c.0 c.2 (AreOrderedMembers-model_in v c.0 c.1 ordered)) (omega arith)))
-    | inr c ↦
-        let room = rw c.0 at end in
-        rw c.0 ((AreFit-shapes_of count models types numbers known v key c.1 ordered).within n room)
-  ]
+abbrev Below : ℕ → List TypeNo → Type 0
+Below count us = All (λ (u : TypeNo). u.0 < count) us
 
-  pub entries_within : (ms : Fields) (m n : ℕ) → member_faults (named_faults types) ms ≡ [] → AreOrderedMembers ms
-      → n + length (entries_shapes numbers ms m n) ≤ count → m + model_count ms ≤ length models → AreWithin count models (entries_shapes numbers ms m n)
-  entries_within no_members m n h ordered end last = All-nil (IsWithin count models)
-  entries_within (member k v ms) m n h ordered end last =
-      let none = entries_parts types k v ms h in
-      let first : List Shape = entry_shapes numbers m v n in
-      let rest : List Shape = entries_shapes numbers ms (next_model m v) (n + length first) in
-      let long : length (first ++ rest) ≡ length first + length rest = length-append first rest in
-      let sum : next_model m v + model_count ms ≡ m + model_count (member k v ms) = next_model-sum m (model_count ms) v in
-      All-append (IsWithin count models) first rest
-      (entry_within v _ m n none.2 ordered.0 (omega arith) (omega arith))
-      (entries_within ms (next_model m v) (n + length first) none.3 ordered.2 (omega arith) (omega arith))
+none_below : (count : ℕ) → Below count []
+none_below count = All-nil (λ (u : TypeNo). u.0 < count)
 
-pub AreWithin-expression_shapes : (types : Fields) (count : ℕ) (models : List ModelType) → member_faults (named_faults types) types ≡ [] → AreOrderedMembers types
-    → length (expression_shapes types) ≤ count → length (models_in types) ≤ length models → AreWithin count models (expression_shapes types)
-AreWithin-expression_shapes types count models h ordered long many =
-    let numbers : Numbers = numbers_of types in
-    let known : (s : List ℕ) → has_key s types ≡ true → numbers s < count = λ s has. let below = numbers_of-below types s h has in omega arith in
-    entries_within count models types numbers known types 0 0 h ordered (omega arith)
-    (omega (arith, length-models_of numbers types (length (expression_shapes types)) 0 0))
+one_below : (count : ℕ) (u : TypeNo) → u.0 < count → Below count (u ∷ [])
+one_below count u h = All-cons (λ (u : TypeNo). u.0 < count) u [] h (none_below count)
 
--- the shapes of a plan that has the types and the models
-pub AreShapesOf : (types : Fields) (p : Plan) → member_faults (named_faults types) types ≡ [] → AreOrderedMembers types
-    → length (expression_shapes types) ≤ length p.shapes → length (models_in types) ≤ length p.models → All (IsShapeOf p) (expression_shapes types)
-AreShapesOf types p h ordered long many =
-    All-weaker (IsWithin (length p.shapes) p.models) (IsShapeOf p) (λ s w. record { model = w.model; types = w.types; plain = w.plain }) (expression_shapes types)
-    (AreWithin-expression_shapes types (length p.shapes) p.models h ordered long many)
+-- shapes of a plan, by what they name
+made_of : (p : Plan) (s : Shape) → NamesModel p.models s → Below (length p.shapes) (leads_of s) → Below (length p.shapes) (parts_of s) → HoldsPlain s
+    → IsShapeOf p s
+made_of p s model leads parts plain = record { model = model; types = record { leads = leads; parts = parts }; plain = plain }
+
+plain_known : (p : Plan) (plain : Plain) → IsShapeOf p (plain_shape plain)
+plain_known p Text = made_of p shape.Str tt (none_below (length p.shapes)) (none_below (length p.shapes)) tt
+plain_known p other = made_of p (plain_shape other) tt (none_below (length p.shapes)) (none_below (length p.shapes)) tt
+
+holder_known : (p : Plan) (holder : Holder) (u : TypeNo) → u.0 < length p.shapes → IsShapeOf p (holder_shape holder u)
+holder_known p Maybe u h = made_of p (shape.Maybe u) tt (one_below (length p.shapes) u h) (none_below (length p.shapes)) tt
+holder_known p MaybeNull u h = made_of p (shape.MaybeNull u) tt (one_below (length p.shapes) u h) (none_below (length p.shapes)) tt
+holder_known p Array u h = made_of p (shape.Array u) tt (none_below (length p.shapes)) (one_below (length p.shapes) u h) tt
+holder_known p Map u h = made_of p (shape.Map u) tt (none_below (length p.shapes)) (one_below (length p.shapes) u h) tt
+
+module _ (form : SchemaForm) (whole : IsWhole form) where
+  long : length form.expressions ≤ length (plan_of (table_of form)).shapes
+  long =
+      let shapes : List Shape = map (kind_shape form.entries) (kinds_of form.expressions) in
+      let own : List Shape = own_shapes 0 form.models in
+      omega (
+        arith,
+        length-map (shapes ++ own) Some,
+        length-append shapes own,
+        length-map (kinds_of form.expressions) (kind_shape form.entries),
+        length-map form.expressions (λ (e : Expression). e.kind),
+      )
+
+  -- an entry's type is that of an expression
+  type_of-below : (e : EntryNo) → e.0 < length form.entries → (type_of form.entries e).0 < length (plan_of (table_of form)).shapes
+  type_of-below e h =
+      let numbers : List ℕ = map (λ (one : Entry). one.of.0) form.entries in
+      let below : All (λ n. n < length form.expressions) numbers = All-map (λ (one : Entry). one.of.0) (λ n. n < length form.expressions) form.entries whole.typed in
+      let known : get_or numbers e.0 0 < length form.expressions =
+      All-get_or (λ n. n < length form.expressions) numbers e.0 0 (omega (arith, h, length-map form.entries (λ (one : Entry). one.of.0))) below in
+      omega (arith, known, long)
+
+  within : (u : TypeNo) → u.0 < length form.expressions → u.0 < length (plan_of (table_of form)).shapes
+  within u h = omega (arith, h, long)
+
+  shape_known : (k : Kind) → IsKindIn form k → IsShapeOf (plan_of (table_of form)) (kind_shape form.entries k)
+  shape_known (kind.Word (word.Plain plain)) h = plain_known (plan_of (table_of form)) plain
+  shape_known (kind.Word (word.Named e)) h =
+      let p : Plan = plan_of (table_of form) in
+      let u : TypeNo = type_of form.entries e in
+      made_of p (shape.Named u) tt (one_below (length p.shapes) u (type_of-below e h)) (none_below (length p.shapes)) tt
+  shape_known (kind.Literal l) h =
+      let p : Plan = plan_of (table_of form) in
+      made_of p (shape.Literal l) tt (none_below (length p.shapes)) (none_below (length p.shapes)) h
+  shape_known (kind.Enumeration texts) h =
+      let p : Plan = plan_of (table_of form) in
+      made_of p (shape.Enumeration texts) tt (none_below (length p.shapes)) (none_below (length p.shapes)) tt
+  shape_known (kind.Optional u d) h =
+      let p : Plan = plan_of (table_of form) in
+      made_of p (shape.Optional u d) tt (one_below (length p.shapes) u (within u h.0)) (none_below (length p.shapes)) h.1
+  shape_known (kind.Holder holder u) h = holder_known (plan_of (table_of form)) holder u (within u h)
+  shape_known (kind.Union us) h =
+      let p : Plan = plan_of (table_of form) in
+      made_of p (shape.Union us) tt
+      (All-weaker (λ (u : TypeNo). u.0 < length form.expressions) (λ (u : TypeNo). u.0 < length p.shapes) within us h)
+      (none_below (length p.shapes)) tt
+  shape_known (kind.Refinement u cs) h =
+      let p : Plan = plan_of (table_of form) in
+      made_of p (shape.Refinement u cs) tt (one_below (length p.shapes) u (within u h)) (none_below (length p.shapes)) tt
+  shape_known (kind.Reference e) h =
+      let p : Plan = plan_of (table_of form) in
+      let u : TypeNo = type_of form.entries e in
+      made_of p (shape.Reference u) tt (none_below (length p.shapes)) (one_below (length p.shapes) u (type_of-below e h)) tt
+  shape_known (kind.SafeReference e) h =
+      let p : Plan = plan_of (table_of form) in
+      let u : TypeNo = type_of form.entries e in
+      made_of p (shape.Safe u) tt (none_below (length p.shapes)) (one_below (length p.shapes) u (type_of-below e h)) tt
+  shape_known (kind.Model m) h =
+      let p : Plan = plan_of (table_of form) in
+      made_of p (shape.Model m) (omega (arith, h, length-models_from (length (kinds_of form.expressions)) form.models))
+      (none_below (length p.shapes)) (none_below (length p.shapes)) tt
+
+  entry_known : (k : Kind) → IsKindIn form k → NamesEntry (length form.entries) k
+  entry_known (kind.Word (word.Named e)) h = h
+  entry_known (kind.Reference e) h = h
+  entry_known (kind.SafeReference e) h = h
+  entry_known _ h = tt
+
+  pub AreWhole-form : AreWhole form.entries (kinds_of form.expressions) form.models
+  AreWhole-form = record {
+    shapes = All-map (λ (e : Expression). e.kind) (IsKindOf form.entries (plan_of (table_of form))) form.expressions
+        (All-at (λ (e : Expression). IsKindOf form.entries (plan_of (table_of form)) e.kind) form.expressions
+        (λ n e at. record { entry = entry_known e.kind (whole.kinds n e at); shape = shape_known e.kind (whole.kinds n e at) }));
+    known = All-at (IsFit (length (kinds_of form.expressions))) form.models
+        (λ n m at. record {
+          named = (whole.models n m at).named;
+          typed = let P : ℕ → Type 0 = λ count. AreTyped count m.properties in
+              subst P (sym (length-map form.expressions (λ (e : Expression). e.kind))) (whole.models n m at).typed;
+        });
+  }
+
+  model_known : (o : Option Expression) (m : ModelNo) → as_model (option_map (λ (e : Expression). e.kind) o) ≡ Some m
+      → (e : Expression) × (o ≡ Some e) × (e.kind ≡ kind.Model m)
+  model_known None m h = cc
+  model_known (Some e) m h = (e, refl, by_kind e.kind h) where
+    by_kind : (k : Kind) → as_model (Some k) ≡ Some m → k ≡ kind.Model m
+    by_kind (kind.Model l) h = ap kind.Model (same_Some l m h)
+    by_kind _ h = cc
+
+  -- the root is one of the models
+  pub root-below : (m : ModelNo) → root_of form ≡ Some m → m.0 < length (table_of form).models
+  root-below m h =
+      let n : ℕ = (type_of form.entries form.root).0 in
+      let at : as_model (option_map (λ (e : Expression). e.kind) (slice_get form.expressions n)) ≡ Some m =
+      ap as_model (sym (slice_get-map (λ (e : Expression). e.kind) form.expressions n)) ∙ h in
+      let found = model_known (slice_get form.expressions n) m at in
+      let P : Kind → Type 0 = IsKindIn form in
+      let below : m.0 < length form.models = subst P found.2 (whole.kinds n found.0 found.1) in
+      omega (arith, below, length-models_from (length (kinds_of form.expressions)) form.models)

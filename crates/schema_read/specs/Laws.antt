@@ -11,3 +11,7 @@ SchemaHasNoFault = (bytes : List ℕ) (schema : Schema) (fault : Fault) → Spel
 -- bytes have one first fault at most
 abbrev pub FirstFaultIsOne : Type 0
 FirstFaultIsOne = (bytes : List ℕ) (one other : Fault) → HasFirst bytes one → HasFirst bytes other → one ≡ other
+
+-- bytes are one schema at most
+abbrev pub FileIsOneSchema : Type 0
+FileIsOneSchema = (bytes : List ℕ) (one other : Schema) → Spells bytes one → Spells bytes other → one ≡ other

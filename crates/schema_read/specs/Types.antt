@@ -1,195 +1,97 @@
--- Which types a schema file stands for: one for each type expression, numbered in document order, and then one for each model.
-use Rattle.std.specs.Prelude.{ℕ, ◌+◌, List, [], ◌∷◌, ◌++◌, length, codes, Option, Some, None, if◌then◌else◌}
-use Rattle.std.specs.Option.{option_map}
-use Rattle.std.specs.Str.{bytes_eq}
-use Rattle.snap_core.specs.Value.{Value, integer, text, list, dict, no_parts, part, no_members, member, Items, Fields}
-use Rattle.snap_core.specs.Unview.{snap_of}
+-- Which types the form of a schema file stands for: one for each type expression, under its number, and then one for each model, which is that model.
+use Rattle.std.specs.Prelude.{ℕ, ◌+◌, List, [], ◌∷◌, ◌++◌, length, map, slice_get, slice_index, Option, Some, None}
 use Rattle.snap_core.specs.declared.number.TypeNo.{TypeNo}
 use Rattle.snap_core.specs.declared.number.ModelNo.{ModelNo}
 use Rattle.type_core.specs.declared.shape.Shape.{Shape}
 use Rattle.type_core.specs.declared.shape.Shape.TheVariants as shape
-use Rattle.type_core.specs.declared.shape.Condition.{Condition}
-use Rattle.type_core.specs.declared.shape.Condition.TheVariants.{Min, Max, MinLength, MaxLength, StartsWith}
-use Rattle.type_core.specs.declared.shape.Property.{Property}
 use Rattle.type_core.specs.declared.shape.ModelType.{ModelType}
 use Rattle.type_core.specs.Table.{Table}
-use Rattle.schema_form.specs.declared.words.Form.{Form}
-use Rattle.schema_form.specs.declared.words.Form.TheVariants.{Literal, Enumeration, Optional, Union, Refinement, Around}
-use Rattle.schema_form.specs.Forms.{form_of}
-use Rattle.schema_form.specs.Forms as forms
+use Rattle.schema_form.specs.declared.form.SchemaForm.{SchemaForm}
+use Rattle.schema_form.specs.declared.form.Entry.{Entry}
+use Rattle.schema_form.specs.declared.form.EntryNo.{EntryNo}
+use Rattle.schema_form.specs.declared.form.Expression.{Expression}
+use Rattle.schema_form.specs.declared.form.ModelForm.{ModelForm}
+use Rattle.schema_form.specs.declared.form.Word.{Word}
+use Rattle.schema_form.specs.declared.form.Word.TheVariants as word
+use Rattle.schema_form.specs.declared.form.Plain.{Plain}
+use Rattle.schema_form.specs.declared.form.Plain.TheVariants.{Text, Integer, Boolean, Null, Frozen, Identifier, IdentifierNumber}
+use Rattle.schema_form.specs.declared.form.Holder.{Holder}
+use Rattle.schema_form.specs.declared.form.Holder.TheVariants.{Maybe, MaybeNull, Array, Map}
+use Rattle.schema_form.specs.declared.form.Kind.{Kind}
+use Rattle.schema_form.specs.declared.form.Kind.TheVariants as kind
 
--- the number of the type that a name stands for
-abbrev pub Numbers : Type 0
-Numbers = List ℕ → ℕ
+-- the type of an entry
+abbrev pub type_of : List Entry → EntryNo → TypeNo
+type_of entries e = record { 0 = slice_index (map (λ (one : Entry). one.of.0) entries) e.0 }
 
-abbrev pub type_no : ℕ → TypeNo
-type_no n = record { 0 = n }
+-- what a plain type is
+abbrev pub plain_shape : Plain → Shape
+plain_shape Text = shape.Str
+plain_shape Integer = shape.Integer
+plain_shape Boolean = shape.Boolean
+plain_shape Null = shape.Null
+plain_shape Frozen = shape.Frozen
+plain_shape Identifier = shape.Identifier
+plain_shape IdentifierNumber = shape.IdentifierNumber
 
--- a word is a plain type, or the name of a type
-abbrev pub word_shape : Numbers → List ℕ → Shape
-word_shape numbers s =
-    if bytes_eq s (codes "string") then shape.Str
-    else if bytes_eq s (codes "integer") then shape.Integer
-    else if bytes_eq s (codes "boolean") then shape.Boolean
-    else if bytes_eq s (codes "null") then shape.Null
-    else if bytes_eq s (codes "frozen") then shape.Frozen
-    else shape.Named (type_no (numbers s))
+-- what holds one type
+abbrev pub holder_shape : Holder → TypeNo → Shape
+holder_shape Maybe u = shape.Maybe u
+holder_shape MaybeNull u = shape.MaybeNull u
+holder_shape Array u = shape.Array u
+holder_shape Map u = shape.Map u
 
--- what holds one type expression
-abbrev pub around_shape : List ℕ → TypeNo → Shape
-around_shape key u =
-    if bytes_eq key (codes "maybe") then shape.Maybe u
-    else if bytes_eq key (codes "maybeNull") then shape.MaybeNull u
-    else if bytes_eq key (codes "array") then shape.Array u
-    else shape.Map u
+-- what a text stands for: a plain type, or the type of the entry that it names
+abbrev pub word_shape : List Entry → Word → Shape
+word_shape entries (word.Plain plain) = plain_shape plain
+word_shape entries (word.Named e) = shape.Named (type_of entries e)
 
--- the texts of a list
-abbrev pub texts_of : Value → List (List ℕ)
-texts_of (list a ps) = texts_in ps where
-  texts_in : Items → List (List ℕ)
-  texts_in no_parts = []
-  texts_in (part (text s) ps) = s ∷ texts_in ps
-  texts_in (part v ps) = texts_in ps
-texts_of _ = []
+-- what a type expression stands for; a reference leads to the type of the entry that it names
+abbrev pub kind_shape : List Entry → Kind → Shape
+kind_shape entries (kind.Word w) = word_shape entries w
+kind_shape entries (kind.Literal l) = shape.Literal l
+kind_shape entries (kind.Enumeration texts) = shape.Enumeration texts
+kind_shape entries (kind.Optional u d) = shape.Optional u d
+kind_shape entries (kind.Holder holder u) = holder_shape holder u
+kind_shape entries (kind.Union us) = shape.Union us
+kind_shape entries (kind.Refinement u conditions) = shape.Refinement u conditions
+kind_shape entries (kind.Reference e) = shape.Reference (type_of entries e)
+kind_shape entries (kind.SafeReference e) = shape.Safe (type_of entries e)
+kind_shape entries (kind.Model m) = shape.Model m
 
--- the condition under a key
-abbrev pub condition_of : List ℕ → Value → List Condition
-condition_of key (integer z) =
-    if bytes_eq key (codes "min") then Min z ∷ []
-    else if bytes_eq key (codes "max") then Max z ∷ []
-    else if bytes_eq key (codes "minLength") then MinLength z ∷ []
-    else if bytes_eq key (codes "maxLength") then MaxLength z ∷ []
-    else []
-condition_of key (text s) = if bytes_eq key (codes "startsWith") then StartsWith s ∷ [] else []
-condition_of key _ = []
+-- models, whose own types are numbered from here on
+abbrev pub models_from : ℕ → List ModelForm → List ModelType
+models_from own [] = []
+models_from own (m ∷ ms) = record { name = m.name; properties = m.properties; own = record { 0 = own } } ∷ models_from (own + 1) ms
 
-abbrev pub conditions_of : Value → List Condition
-conditions_of (dict a ms) = conditions_in ms where
-  conditions_in : Fields → List Condition
-  conditions_in no_members = []
-  conditions_in (member k v ms) = condition_of k v ++ conditions_in ms
-conditions_of _ = []
-
--- shapes, the first of which has a number that is given
-abbrev pub Shapes : Type 0
-Shapes = ℕ → List Shape
-
--- one after another
-abbrev pub in_turn : List Shapes → Shapes
-in_turn [] n = []
-in_turn (s ∷ ss) n = s n ++ in_turn ss (n + length (s n))
-
--- the numbers at which they begin
-abbrev pub numbers_in_turn : List Shapes → ℕ → List TypeNo
-numbers_in_turn [] n = []
-numbers_in_turn (s ∷ ss) n = type_no n ∷ numbers_in_turn ss (n + length (s n))
-
--- an object with one key: its own shape, and then those of its parts, with the shapes of its value and of its value's items given
-abbrev pub form_shapes : List ℕ → Form → Value → Shapes → List Shapes → Shapes
-form_shapes key Around v inner items n = around_shape key (type_no (n + 1)) ∷ inner (n + 1)
-form_shapes key Literal v inner items n = shape.Literal (snap_of v) ∷ []
-form_shapes key Enumeration v inner items n = shape.Enumeration (texts_of v) ∷ []
-form_shapes key Optional (list a (part t (part d no_parts))) inner (first ∷ rest) n = shape.Optional (type_no (n + 1)) (snap_of d) ∷ first (n + 1)
-form_shapes key Refinement (list a (part t (part cs no_parts))) inner (first ∷ rest) n = shape.Refinement (type_no (n + 1)) (conditions_of cs) ∷ first (n + 1)
-form_shapes key Union v inner items n = shape.Union (numbers_in_turn items (n + 1)) ∷ in_turn items (n + 1)
-form_shapes key form v inner items n = []
-
-abbrev mutual
-  -- the shapes of a type expression and of those in it, in document order; where it hasn't the form of one, they don't matter
-  pub shapes_of : Numbers → Value → Shapes
-  shapes_of numbers (text s) n = word_shape numbers s ∷ []
-  shapes_of numbers (dict a (member k v no_members)) n = form_shapes k (form_of k) v (shapes_of numbers v) (item_shapes numbers v) n
-  shapes_of numbers _ n = []
-
-  pub item_shapes : Numbers → Value → List Shapes
-  item_shapes numbers (list a ps) = part_shapes numbers ps
-  item_shapes numbers _ = []
-
-  pub part_shapes : Numbers → Items → List Shapes
-  part_shapes numbers no_parts = []
-  part_shapes numbers (part v ps) = shapes_of numbers v ∷ part_shapes numbers ps
-
--- the types of a record's values
-abbrev pub value_shapes : Numbers → Fields → List Shapes
-value_shapes numbers no_members = []
-value_shapes numbers (member k v ms) = shapes_of numbers v ∷ value_shapes numbers ms
-
--- the properties of a model: a record of type expressions
-abbrev pub properties_in : Value → Fields
-properties_in (dict a (member k (dict b ms) no_members)) = ms
-properties_in _ = no_members
-
--- the properties of an entry that is a model
-abbrev pub model_in : Value → Option Fields
-model_in v = option_map properties_in (forms.model_in v)
-
--- the shapes of an entry of the types, the next model having this number
-abbrev pub entry_shapes : Numbers → ℕ → Value → Shapes
-entry_shapes numbers m v n = by_model (model_in v) where
-  by_model : Option Fields → List Shape
-  by_model (Some ps) = shape.Model (record { 0 = m }) ∷ in_turn (value_shapes numbers ps) (n + 1)
-  by_model None = shapes_of numbers v n
-
--- how many types an entry stands for, which depends on no number
-abbrev pub count_of : Value → ℕ
-count_of v = length (entry_shapes (λ name. 0) 0 v 0)
-
--- the number of the model after an entry
-abbrev pub next_model : ℕ → Value → ℕ
-next_model m v = by_model (model_in v) where
-  by_model : Option Fields → ℕ
-  by_model (Some ps) = m + 1
-  by_model None = m
-
--- the shapes of the entries
-abbrev pub entries_shapes : Numbers → Fields → ℕ → Shapes
-entries_shapes numbers no_members m n = []
-entries_shapes numbers (member k v ms) m n =
-    entry_shapes numbers m v n ++ entries_shapes numbers ms (next_model m v) (n + length (entry_shapes numbers m v n))
-
--- the number of the type that a name stands for: how many type expressions stand before its own
-abbrev pub number_within : Fields → ℕ → Numbers
-number_within no_members n name = n
-number_within (member k v ms) n name = if bytes_eq name k then n else number_within ms (n + count_of v) name
-
-abbrev pub numbers_of : Fields → Numbers
-numbers_of types name = number_within types 0 name
-
--- the properties of a model, the types of which begin at a number
-abbrev pub properties_of : Numbers → Fields → ℕ → List Property
-properties_of numbers no_members n = []
-properties_of numbers (member k v ms) n = record { name = k; of = type_no n } ∷ properties_of numbers ms (n + length (shapes_of numbers v n))
-
--- a model in front of the others, if the entry is one: its types begin at number n, and its own type has number own
-abbrev pub model_before : List ℕ → Numbers → ℕ → ℕ → Option Fields → List ModelType → List ModelType
-model_before name numbers n own (Some ps) rest = record { name = name; properties = properties_of numbers ps (n + 1); own = type_no own } ∷ rest
-model_before name numbers n own None rest = rest
-
--- the models of these entries, where the next model has number m, the next type number n, and the first model's own type number first
-abbrev pub models_of : Numbers → Fields → ℕ → ℕ → ℕ → List ModelType
-models_of numbers no_members first m n = []
-models_of numbers (member k v ms) first m n =
-    model_before k numbers n (first + m) (model_in v) (models_of numbers ms first (next_model m v) (n + length (entry_shapes numbers m v n)))
-
--- the models' own types, from this model on
-abbrev pub own_shapes : ℕ → List ModelType → List Shape
+-- the models' own types, the first of which is the model of this number
+abbrev pub own_shapes : ℕ → List ModelForm → List Shape
 own_shapes m [] = []
-own_shapes m (model ∷ models) = shape.Model (record { 0 = m }) ∷ own_shapes (m + 1) models
+own_shapes m (_ ∷ models) = shape.Model (record { 0 = m }) ∷ own_shapes (m + 1) models
 
--- the shapes of the type expressions of these entries
-abbrev pub expression_shapes : Fields → List Shape
-expression_shapes types = entries_shapes (numbers_of types) types 0 0
+-- what type expressions say
+abbrev pub kinds_of : List Expression → List Kind
+kinds_of expressions = map (λ e. e.kind) expressions
 
-abbrev pub models_in : Fields → List ModelType
-models_in types = models_of (numbers_of types) types (length (expression_shapes types)) 0 0
+-- the types of entries, expressions and models
+abbrev pub put_together : List Entry → List Kind → List ModelForm → Table
+put_together entries kinds models = record {
+  shapes = map (kind_shape entries) kinds ++ own_shapes 0 models;
+  models = models_from (length kinds) models;
+}
 
-abbrev pub table_of : Fields → Table
-table_of types = record { shapes = expression_shapes types ++ own_shapes 0 (models_in types); models = models_in types }
+abbrev pub table_of : SchemaForm → Table
+table_of form = put_together form.entries (kinds_of form.expressions) form.models
 
--- the number of the model of a name, if that entry is a model
-abbrev pub model_within : Fields → ℕ → List ℕ → Option ModelNo
-model_within no_members m name = None
-model_within (member k v ms) m name = if bytes_eq name k then found (model_in v) else model_within ms (next_model m v) name where
-  found : Option Fields → Option ModelNo
-  found (Some ps) = Some (record { 0 = m })
-  found None = None
+-- the model that an expression is
+abbrev pub as_model : Option Kind → Option ModelNo
+as_model (Some (kind.Model m)) = Some m
+as_model _ = None
+
+-- the model that an entry is; none where it is only a name of one
+abbrev pub model_of : List Entry → List Kind → EntryNo → Option ModelNo
+model_of entries kinds e = as_model (slice_get kinds (type_of entries e).0)
+
+-- the model that documents are of
+abbrev pub root_of : SchemaForm → Option ModelNo
+root_of form = model_of form.entries (kinds_of form.expressions) form.root

@@ -1,40 +1,30 @@
-//! The types of a schema, put together from the shapes of its type expressions and from its models.
-ghost use Rattle.std.specs.Prelude.{◌≡◌, ◌<◌, [], ◌++◌, ℕ, length, map, take, drop, replicate, Some, None, All, IfOk, OnOk};
-ghost use Rattle.pointer_core.specs.declared.schema_rule.SchemaRule.{SchemaRule as Rule};
-ghost use Rattle.type_core.specs.Table.{IsShapeOf, plan_of};
-ghost use Rattle.type_core.specs.Faults.{HasFault, IsFirstFault, IfWrong};
-ghost use Rattle.schema_read.specs.Types.{own_shapes};
-ghost use Rattle.schema_read.specs.Assembly.{put_together, AreModels, AreWhole};
+//! The types of a schema, put together from the entries, the type expressions and the models of a form.
+ghost use Rattle.std.specs.Prelude.{◌≡◌, [], ◌++◌, length, map, take, drop, replicate, Some, None, All, IfOk, OnOk};
+ghost use Rattle.type_core.specs.Table.{plan_of};
+ghost use Rattle.schema_read.specs.Types as types;
+ghost use Rattle.schema_read.specs.Types.{own_shapes, models_from, put_together};
+ghost use Rattle.schema_read.specs.Assembly.{IsKindOf, IsFit, AreWhole};
 
-use crate::entries::Entries;
+use crate::shapes::kind_shape;
 use list_core::Parts;
-use snap_core::{ModelNo, TypeNo};
+use schema_form::{Entry, Kind, ModelForm};
+use snap_core::TypeNo;
 use std::alloc::{AllocError, Global};
-use type_core::{Draft, DraftError, ModelType, Shape, Types};
+use type_core::{Draft, Properties, Property};
 
-/// The finished types of the entries, or their first fault.
-pub fn assembled(alloc: Global, entries: Entries, root: ModelNo) -> Result<Types, DraftError>
-    requires whole { AreWhole entries.shapes entries.models }
-    requires root { root.0 < length entries.models }
-    ensures table { IfOk result (λ types. types.table ≡ put_together entries.shapes entries.models) }
-    ensures root { IfOk result (λ types. types.root ≡ root) }
-    ensures faultless { IfOk result (λ types. (t : ℕ) (rule : Rule) → ¬ (HasFault types.table t rule)) }
-    ensures wrong { IfWrong result
-        (λ t rule. IsFirstFault (put_together entries.shapes entries.models) t.0 rule) }
+/// A draft with a type for each expression and each model.
+pub fn draft_of(
+    alloc: Global,
+    entries: &[Entry],
+    models: &[ModelForm],
+    kinds: Parts<Kind>,
+) -> Result<Draft, AllocError>
+    requires { AreWhole entries.now kinds models.now }
+    ensures { IfOk result (λ draft. draft ≡ plan_of (put_together entries.now kinds models.now)) }
 {
-    let draft = filled(alloc, entries)?;
-    draft.finish(root)
-}
-
-/// A draft with all shapes and models.
-fn filled(alloc: Global, entries: Entries) -> Result<Draft, AllocError>
-    requires { AreWhole entries.shapes entries.models }
-    ensures { IfOk result (λ draft. draft ≡ plan_of (put_together entries.shapes entries.models)) }
-{
-    let Entries { shapes, models } = entries;
-    let mut draft = begun(alloc, shapes.len())?;
-    add_models(&mut draft, models.into_vec())?;
-    define_all(&mut draft, shapes);
+    let mut draft = begun(alloc, kinds.len())?;
+    add_models(alloc, &mut draft, models)?;
+    define_all(&mut draft, entries, kinds);
     Ok(draft)
 }
 
@@ -50,32 +40,45 @@ fn begun(alloc: Global, count: usize) -> Result<Draft, AllocError>
 }
 
 /// Adds models.
-fn add_models(draft: &mut Draft, models: Vec<ModelType>) -> Result<(), AllocError>
-    requires { AreModels (length draft.old.shapes) (length draft.old.shapes) models.items }
-    ensures shapes { OnOk result
-        (draft.new.shapes
-        ≡ draft.old.shapes ++ map Some (own_shapes (length draft.old.models) models.items)) }
-    ensures models { OnOk result (draft.new.models ≡ draft.old.models ++ models.items) }
+fn add_models(alloc: Global, draft: &mut Draft, models: &[ModelForm]) -> Result<(), AllocError>
+    requires { All (IsFit (length draft.old.shapes)) models.now }
+    ensures shapes { OnOk result (draft.new.shapes
+        ≡ draft.old.shapes ++ map Some (own_shapes (length draft.old.models) models.now)) }
+    ensures models { OnOk result
+        (draft.new.models ≡ draft.old.models ++ models_from (length draft.old.shapes) models.now) }
 {
     for model in models {
-        let ModelType {
-            name,
-            properties,
-            ..
-        } = model;
+        let name = model.name.clone_in(alloc)?;
+        let properties = copied(alloc, model.properties.as_slice())?;
         draft.model(name, properties)?;
     }
     Ok(())
 }
 
-/// Gives the draft's first types their shapes.
-fn define_all(draft: &mut Draft, mut shapes: Parts<Shape>)
-    requires undefined { take (length shapes) draft.old.shapes ≡ replicate (length shapes) None }
-    requires names { All (IsShapeOf draft.old) shapes }
-    ensures { draft.new
-        ≡ record draft.old { shapes = map Some shapes ++ drop (length shapes) draft.old.shapes } }
+/// A copy of properties: the form keeps its own, for the names in pointers.
+fn copied(alloc: Global, properties: &[Property]) -> Result<Properties, AllocError>
+    ensures { IfOk result (λ copy. copy ≡ properties.now) }
 {
-    while let Some(shape) = shapes.pop() {
-        draft.define(TypeNo(shapes.len()), shape);
+    let mut copy = Parts::new(alloc);
+    for property in properties {
+        let name = property.name.clone_in(alloc)?;
+        copy.push(Property {
+            name,
+            of: property.of,
+        })?;
+    }
+    Ok(copy)
+}
+
+/// Gives the draft's first types the shapes of expressions.
+fn define_all(draft: &mut Draft, entries: &[Entry], mut kinds: Parts<Kind>)
+    requires undefined { take (length kinds) draft.old.shapes ≡ replicate (length kinds) None }
+    requires kinds { All (IsKindOf entries.now draft.old) kinds }
+    ensures { draft.new ≡ record draft.old {
+      shapes = map Some (map (types.kind_shape entries.now) kinds) ++ drop (length kinds) draft.old.shapes;
+    } }
+{
+    while let Some(kind) = kinds.pop() {
+        draft.define(TypeNo(kinds.len()), kind_shape(entries, kind));
     }
 }

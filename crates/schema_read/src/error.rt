@@ -7,10 +7,10 @@ pub enum SchemaError {
     #[error("out of memory")]
     Memory,
     /// The file is no JSON in UTF-8, or it nests deeper than 127 or has a number past what a double holds.
-    #[error("no JSON")]
+    #[error("schema syntax")]
     Syntax,
-    /// The first fault, and where it is.
-    #[error("a schema at fault")]
+    /// The rule of the first fault, and where it is.
+    #[error("schema {pointer} {rule}")]
     Refused { pointer: Pointer, rule: SchemaRule },
 }
 

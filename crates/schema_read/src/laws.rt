@@ -1,4 +1,6 @@
-ghost use Rattle.schema_read.specs.Laws.{SchemaHasNoFault, FirstFaultIsOne};
+ghost use Rattle.schema_read.specs.Laws.{SchemaHasNoFault, FirstFaultIsOne, FileIsOneSchema};
+
+use type_core::types_are_one;
 
 /// Bytes that are a schema have no fault.
 pub fn schema_has_no_fault()
@@ -9,3 +11,10 @@ pub fn schema_has_no_fault()
 pub fn first_fault_is_one()
     ensures { FirstFaultIsOne }
 {}
+
+/// Bytes are one schema at most.
+pub fn file_is_one_schema()
+    ensures { FileIsOneSchema }
+{
+    types_are_one();
+}

@@ -1,24 +1,20 @@
-ghost use Rattle.std.specs.Prelude.{◌≡◌, [], ◌∷◌, codes, slice_get, Some, None, IsSome, IfOk};
+ghost use Rattle.std.specs.Prelude.{◌≡◌, None, IfOk};
 ghost use Rattle.snap_core.specs.Value.{IsOrdered};
-ghost use Rattle.snap_core.specs.View.{view, fields_view};
+ghost use Rattle.snap_core.specs.View.{view};
 ghost use Rattle.snap_json.specs.Loose.{loosely};
-ghost use Rattle.schema_form.specs.Faults.{file_faults};
-ghost use Rattle.schema_read.specs.Places.{places_of};
-ghost use Rattle.schema_read.specs.Schema as schema;
-ghost use Rattle.schema_read.specs.Schema.{IsSchema, IsFirst, Spells, HasFirst};
+ghost use Rattle.schema_form.specs.Form.{IsWhole};
+ghost use Rattle.schema_read.specs.Schema.{Means, IsFirstOf, IsSchema, IsFirst, Spells, HasFirst};
 ghost use Rattle.schema_read.specs.Refusal.{IfSyntax, IfRefused};
 
-use crate::assemble::assembled;
-use crate::entries::read_entries;
+use crate::assemble::draft_of;
 use crate::error::SchemaError;
-use crate::parts::{history_of, root_of, types_of};
-use crate::places::place_of;
+use crate::shapes::model_of;
 use expr_core::Schema;
 use pointer_core::{Pointer, SchemaRule};
-use schema_form::first_fault;
-use snap_core::{Field, ModelNo, Snap, Txt, TypeNo};
+use schema_form::{Fault, FormError, Laid, SchemaForm, pointer_to, read_form, taken_apart};
+use snap_core::Snap;
 use snap_json::read_loosely;
-use std::alloc::{AllocError, Global};
+use std::alloc::Global;
 use type_core::DraftError;
 
 /// Reads a schema file, or names its first fault. A file that is no JSON in UTF-8, as `snap_json` reads
@@ -26,9 +22,10 @@ use type_core::DraftError;
 ///
 /// Faults are looked for in three passes over the file, each in document order, which takes the keys of
 /// an object in ascending order: first in form, names, repetitions and the range of the history; then
-/// a root that is no model, types that lead back to themselves and unions whose members aren't told
-/// apart; then defaults. `schema_has_no_fault` and `first_fault_is_one` say that no two of these
-/// answers are right.
+/// a root that is no model, types that lead back to themselves, identifiers and references that don't
+/// stand or lead where they may, and unions whose members aren't told apart; then defaults.
+/// `schema_has_no_fault`, `first_fault_is_one` and `file_is_one_schema` say that no two of these answers
+/// are right.
 pub fn read_schema(alloc: Global, bytes: &[u8]) -> Result<Schema, SchemaError>
     ensures ok { IfOk result (Spells bytes.now) }
     ensures syntax { IfSyntax result (loosely bytes.now ≡ None) }
@@ -36,86 +33,71 @@ pub fn read_schema(alloc: Global, bytes: &[u8]) -> Result<Schema, SchemaError>
         (λ path rule. HasFirst bytes.now (record { path = path; rule = rule })) }
 {
     match read_loosely(alloc, bytes)? {
-        Some(file) => schema_of(alloc, &file),
+        Some(file) => schema_in(alloc, &file),
         None => Err(SchemaError::Syntax),
     }
 }
 
-/// The schema that a file is.
-fn schema_of(alloc: Global, file: &Snap) -> Result<Schema, SchemaError>
+/// The schema that a file is, or its first fault.
+fn schema_in(alloc: Global, file: &Snap) -> Result<Schema, SchemaError>
     requires { IsOrdered (view file.now) }
     ensures ok { IfOk result (IsSchema (view file.now)) }
     ensures syntax { IfSyntax result ⊥ }
     ensures refused { IfRefused result
         (λ path rule. IsFirst (view file.now) (record { path = path; rule = rule })) }
 {
-    match first_fault(alloc, file)? {
-        Some(fault) => Err(SchemaError::Refused {
-            pointer: fault.path,
-            rule: fault.rule,
-        }),
-        None => formed(alloc, file),
+    match read_form(alloc, file) {
+        Ok(form) => schema_of(alloc, form),
+        Err(FormError::Memory) => Err(SchemaError::Memory),
+        Err(FormError::Wrong(fault)) => Err(refused(fault)),
     }
 }
 
-/// The schema that a file without a fault in form is.
-fn formed(alloc: Global, file: &Snap) -> Result<Schema, SchemaError>
-    requires ordered { IsOrdered (view file.now) }
-    requires formed { file_faults (view file.now) ≡ [] }
-    ensures ok { IfOk result (IsSchema (view file.now)) }
+/// The answer to a file with a fault.
+fn refused(fault: Fault) -> SchemaError
+    ensures { result ≡ SchemaError.Refused fault.path fault.rule }
+{
+    SchemaError::Refused {
+        pointer: fault.path,
+        rule: fault.rule,
+    }
+}
+
+/// The schema that a form means, or its first fault.
+fn schema_of(alloc: Global, form: SchemaForm) -> Result<Schema, SchemaError>
+    requires { IsWhole form }
+    ensures ok { IfOk result (Means form) }
     ensures syntax { IfSyntax result ⊥ }
     ensures refused { IfRefused result
-        (λ path rule. IsFirst (view file.now) (record { path = path; rule = rule })) }
+        (λ path rule. IsFirstOf form (record { path = path; rule = rule })) }
 {
-    match root_of(file) {
-        Some(root) => rooted(alloc, file, root),
-        None => Err(SchemaError::Refused {
-            pointer: root_place(alloc)?,
+    let SchemaForm {
+        entries,
+        expressions,
+        models,
+        root,
+        history,
+    } = form;
+    let Laid { places, kinds } = taken_apart(alloc, expressions)?;
+    let Some(root) = model_of(entries.as_slice(), kinds.as_slice(), root) else {
+        return Err(SchemaError::Refused {
+            pointer: Pointer::new(alloc).under("root")?,
             rule: SchemaRule::Target,
-        }),
-    }
-}
-
-fn root_place(alloc: Global) -> Result<Pointer, AllocError>
-    ensures { IfOk result (λ path. path ≡ codes "root" ∷ []) }
-{
-    let mut path = Pointer::new(alloc);
-    path.push(Txt::copy(alloc, "root")?)?;
-    Ok(path)
-}
-
-/// The schema that a file without a fault in form is, whose root names a model.
-fn rooted(alloc: Global, file: &Snap, root: ModelNo) -> Result<Schema, SchemaError>
-    requires ordered { IsOrdered (view file.now) }
-    requires formed { file_faults (view file.now) ≡ [] }
-    requires root { schema.root_of (view file.now) ≡ Some root }
-    ensures ok { IfOk result (IsSchema (view file.now)) }
-    ensures syntax { IfSyntax result ⊥ }
-    ensures refused { IfRefused result
-        (λ path rule. IsFirst (view file.now) (record { path = path; rule = rule })) }
-{
-    let entries = types_of(file);
-    let read = read_entries(alloc, entries)?;
-    match assembled(alloc, read, root) {
-        Ok(types) => {
-            prove!(types.root() == root);
-            Ok(Schema::new(types, history_of(file)))
-        }
+        });
+    };
+    let draft = draft_of(alloc, entries.as_slice(), models.as_slice(), kinds)?;
+    match draft.finish(root) {
+        Ok(types) => Ok(Schema::new(types, history)),
         Err(DraftError::Memory) => Err(SchemaError::Memory),
         Err(DraftError::Wrong { t, rule }) => Err(SchemaError::Refused {
-            pointer: known_place(alloc, entries, t)?,
+            pointer: pointer_to(
+                alloc,
+                entries.as_slice(),
+                models.as_slice(),
+                places.as_slice(),
+                t,
+            )?,
             rule,
         }),
-    }
-}
-
-/// Where the type expression of a type stands.
-fn known_place(alloc: Global, entries: &[Field], t: TypeNo) -> Result<Pointer, AllocError>
-    requires { IsSome (slice_get (places_of (fields_view entries.now)) t.0) }
-    ensures { IfOk result (λ path. slice_get (places_of (fields_view entries.now)) t.0 ≡ Some path) }
-{
-    match place_of(alloc, entries, t.0)? {
-        Some(path) => Ok(path),
-        None => unreachable!(),
     }
 }

@@ -1,4 +1,4 @@
-//! Drafts put together by hand. Tables of making and of faults are beside it, over schema files.
+//! Drafts put together by calls.
 ghost use Rattle.std.specs.Prelude.{◌≡◌, [], IfOk, All, IsSome};
 ghost use Rattle.snap_core.specs.Value.{IsPlain};
 ghost use Rattle.snap_core.specs.View.{view};

@@ -1,12 +1,8 @@
-//! Tests of types, making and schema files, by the calls of `type_core`, `schema_form`, `expr_core` and
-//! `schema_read`. They stand apart, since a crate that has tests is proved twice.
+//! Tests of types and schema files that no case of `schema_cases` reaches: drafts that are put together by
+//! calls, what a schema tells of itself, and a file that isn't UTF-8.
 #![tactic(auto)]
 
 #[cfg(test)]
 mod drafts;
-#[cfg(test)]
-mod forms;
-#[cfg(test)]
-mod making;
 #[cfg(test)]
 mod reading;

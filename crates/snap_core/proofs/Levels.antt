@@ -75,7 +75,7 @@ same_key {R} key k equal other = elim (bytes_eq key k) as (λ b. bytes_eq key k 
 ] refl
 
 -- a case for each answer of the test whether a key comes before another
-key_before : {R : Type 0} (key k : List ℕ) → (key_cmp key k ≡ Less → is_lt (key_cmp key k) ≡ true → R) → (is_lt (key_cmp key k) ≡ false → R) → R
+pub key_before : {R : Type 0} (key k : List ℕ) → (key_cmp key k ≡ Less → is_lt (key_cmp key k) ≡ true → R) → (is_lt (key_cmp key k) ≡ false → R) → R
 key_before {R} key k before other = elim (key_cmp key k) as (λ o. key_cmp key k ≡ o → R) [
   | Less ↦ λ e. before e (ap is_lt e)
   | Equal ↦ λ e. other (ap is_lt e)
@@ -215,14 +215,14 @@ AreOrderedMembers-set_field {A} key v (member k w ms) one all = same_key key k
     rw e (all.0, subst P (sym (keys_of-set_field key v ms)) all.1, AreOrderedMembers-set_field key v ms one all.2))
 
 -- of two unequal keys one comes before the other
-other_before : (key k : List ℕ) → bytes_eq key k ≡ false → is_lt (key_cmp key k) ≡ false → key_cmp k key ≡ Less
+pub other_before : (key k : List ℕ) → bytes_eq key k ≡ false → is_lt (key_cmp key k) ≡ false → key_cmp k key ≡ Less
 other_before key k apart later = elim (key_cmp key k) as (λ o. key_cmp key k ≡ o → key_cmp k key ≡ Less) [
   | Less ↦ λ e. let lower : is_lt (key_cmp key k) ≡ true = ap is_lt e in cc
   | Equal ↦ λ e. let tied : bytes_eq key k ≡ true = sym (is_eq-slice_cmp key k) ∙ ap is_eq e in cc
   | Greater ↦ λ e. nat_list_cmp_total.antisymm k key ∙ ap ordering_reverse e
 ] refl
 
-ComesBefore-insert_field : {A : Type 0} (k key : List ℕ) (v : Tree A) (ms : TreeFields A) → key_cmp k key ≡ Less → ComesBefore k (keys_of ms) → ComesBefore k (keys_of (insert_field key v ms))
+pub ComesBefore-insert_field : {A : Type 0} (k key : List ℕ) (v : Tree A) (ms : TreeFields A) → key_cmp k key ≡ Less → ComesBefore k (keys_of ms) → ComesBefore k (keys_of (insert_field key v ms))
 ComesBefore-insert_field k key v no_members lower before = lower
 ComesBefore-insert_field k key v (member k' w ms) lower before = key_before key k'
     (λ first e. rw e lower)
@@ -240,7 +240,7 @@ ComesBefore-first : {A : Type 0} (k k' : List ℕ) (ms : TreeFields A) → key_c
 ComesBefore-first k k' no_members lower before = tt
 ComesBefore-first k k' (member l w ms) lower before = nat_list_cmp_total.trans k k' l lower before
 
-ComesBefore-remove_field : {A : Type 0} (k key : List ℕ) (ms : TreeFields A) → AreOrderedMembers ms → ComesBefore k (keys_of ms) → ComesBefore k (keys_of (remove_field key ms))
+pub ComesBefore-remove_field : {A : Type 0} (k key : List ℕ) (ms : TreeFields A) → AreOrderedMembers ms → ComesBefore k (keys_of ms) → ComesBefore k (keys_of (remove_field key ms))
 ComesBefore-remove_field k key no_members all before = tt
 ComesBefore-remove_field k key (member k' w ms) all before = same_key key k'
     (λ same e. rw e (ComesBefore-first k k' ms before all.1))

@@ -5,3 +5,4 @@ pub mod Searching
 pub mod InPlace
 pub mod Examples
 pub mod Levels
+pub mod PlainLevels

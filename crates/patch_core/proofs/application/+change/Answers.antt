@@ -1,10 +1,9 @@
 -- A change inside an item or a field, and the items and fields that are left as they were.
 use Rattle.std.proofs.Common.{◌≡◌, ◌∙◌, List, Some, None, length, sym, ap, subst, arith}
-use Rattle.snap_core.specs.Value.{AreKeyed, AreOrdered, AreOrderedMembers}
-use Rattle.snap_core.specs.View.{view, items_view, fields_view}
+use Rattle.snap_core.specs.Value.{AreKeyed}
+use Rattle.snap_core.specs.View.{fields_view}
 use Rattle.snap_core.specs.declared.snap.Field.{Field}
 use Rattle.patch_core.specs.Place.{index_below}
-use Rattle.patch_core.specs.Application.{changed, written}
 use Rattle.patch_core.proofs.InPlace.{keyed_from_ordered, in_item, no_item, item_kept, item_ordered, in_found_field, field_ordered, field_kept}
 use Rattle.patch_core.proofs.application.+change.Goals as goal
 

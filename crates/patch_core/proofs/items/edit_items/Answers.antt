@@ -1,5 +1,4 @@
 -- The view of a list has as many items as the list.
-use Rattle.std.proofs.Common.{rules}
 use Rattle.snap_core.proofs.InPlace.{count_of-items_view}
 use Rattle.patch_core.proofs.items.edit_items.Goals as goal
 

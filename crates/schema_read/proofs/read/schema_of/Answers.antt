@@ -1,14 +1,66 @@
-use Rattle.std.proofs.Common.{sym, ◌∙◌}
-use Rattle.snap_core.specs.View.{view}
-use Rattle.schema_form.specs.Faults.{file_faults}
-use Rattle.schema_read.specs.Schema.{in_form}
-use Rattle.schema_read.proofs.FirstFault.{none_first, some_first}
+use Rattle.std.proofs.Common.{◌≡◌, ◌<◌, length, Some, None, All, refl, sym, ap, subst, ◌∙◌}
+use Rattle.std.specs.Prelude.{IsSome}
+use Rattle.type_core.specs.Table.{Plan, plan_of}
+use Rattle.type_core.proofs.Plans.{same_table}
+use Rattle.schema_read.specs.Types.{table_of, root_of}
+use Rattle.schema_read.specs.Schema.{IsFirstOf, at_root, at_type}
+use Rattle.schema_read.proofs.Faulty.{HasFault-expression}
+use Rattle.schema_read.proofs.Filling.{All-IsSome}
+use Rattle.schema_read.proofs.Whole.{AreWhole-form, root-below}
 use Rattle.schema_read.proofs.read.schema_of.Goals as goal
 
-pub formed-requires-clause-formed : goal.formed-requires-clause-formed
-formed-requires-clause-formed c = none_first (file_faults (view c.args.file.now)) (sym c.in_ok-fault.ensures ∙ c.in-None.is)
+pub returns-in_default-clause-refused : goal.returns-in_default-clause-refused
+returns-in_default-clause-refused c =
+    let form = c.args.form in
+    let none : root_of form ≡ None = sym (rw (c.as_slice.ensures, c.as_slice-2.ensures, c.in_ok-places.ensures.kinds) at c.model_of.ensures) ∙ c.in_default.is in
+    rw (c.in_ok-under.ensures, c.new.ensures) (at_root none)
 
-pub returns-in-Some-clause-refused : goal.returns-in-Some-clause-refused
-returns-in-Some-clause-refused c =
-    let known = some_first (file_faults (view c.args.file.now)) c.in-Some.fault (sym c.in_ok-fault.ensures ∙ c.in-Some.is) in
-    in_form c.in-Some.fault known.0 known.1
+pub draft_of-requires : goal.draft_of-requires
+draft_of-requires c = rw (c.as_slice-3.ensures, c.as_slice-4.ensures, c.in_ok-places.ensures.kinds) (AreWhole-form c.args.form c.requires)
+
+pub finish-requires-clause-root : goal.finish-requires-clause-root
+finish-requires-clause-root c =
+    let form = c.args.form in
+    let is : root_of form ≡ Some c.in-Some.root = sym (rw (c.as_slice.ensures, c.as_slice-2.ensures, c.in_ok-places.ensures.kinds) at c.model_of.ensures) ∙ c.in-Some.is in
+    let plan : c.in_ok-draft.draft ≡ plan_of (table_of form) = rw (c.as_slice-3.ensures, c.as_slice-4.ensures, c.in_ok-places.ensures.kinds) at c.in_ok-draft.ensures in
+    subst (λ (p : Plan). c.in-Some.root.0 < length p.models) (sym plan) (root-below form c.requires c.in-Some.root is)
+
+pub finish-requires-clause-defined : goal.finish-requires-clause-defined
+finish-requires-clause-defined c =
+    let form = c.args.form in
+    let plan : c.in_ok-draft.draft ≡ plan_of (table_of form) = rw (c.as_slice-3.ensures, c.as_slice-4.ensures, c.in_ok-places.ensures.kinds) at c.in_ok-draft.ensures in
+    subst (λ (p : Plan). All IsSome p.shapes) (sym plan) (All-IsSome (table_of form).shapes)
+
+pub returns-in-Ok-clause-ok : goal.returns-in-Ok-clause-ok
+returns-in-Ok-clause-ok c =
+    let form = c.args.form in
+    let known = c.in-Ok.ensures in
+    let is : root_of form ≡ Some c.in-Some.root = sym (rw (c.as_slice.ensures, c.as_slice-2.ensures, c.in_ok-places.ensures.kinds) at c.model_of.ensures) ∙ c.in-Some.is in
+    let plan : c.in_ok-draft.draft ≡ plan_of (table_of form) = rw (c.as_slice-3.ensures, c.as_slice-4.ensures, c.in_ok-places.ensures.kinds) at c.in_ok-draft.ensures in
+    rw c.new-in-Ok.ensures record {
+      root = is ∙ ap Some (sym known.root);
+      types = same_table c.in-Ok.types.table (table_of form) (known.plan ∙ plan);
+      faultless = known.faultless;
+      sound = known.sound;
+      history = refl;
+    }
+
+pub pointer_to-requires-clause-within : goal.pointer_to-requires-clause-within
+pointer_to-requires-clause-within c =
+    let form = c.args.form in
+    let plan : c.in_ok-draft.draft ≡ plan_of (table_of form) = rw (c.as_slice-3.ensures, c.as_slice-4.ensures, c.in_ok-places.ensures.kinds) at c.in_ok-draft.ensures in
+    let fault = c.in-Err-Wrong in
+    let wrong = rw fault.field-0-is at fault.ensures.wrong in
+    let first = wrong (table_of form) (sym plan) in
+    rw (c.as_slice-in-Err-Wrong-3.ensures, c.in_ok-places.ensures.places) (HasFault-expression form fault.t.0 fault.rule first.fault)
+
+pub returns-clause-refused : goal.returns-clause-refused
+returns-clause-refused c =
+    let form = c.args.form in
+    let is : root_of form ≡ Some c.in-Some.root = sym (rw (c.as_slice.ensures, c.as_slice-2.ensures, c.in_ok-places.ensures.kinds) at c.model_of.ensures) ∙ c.in-Some.is in
+    let plan : c.in_ok-draft.draft ≡ plan_of (table_of form) = rw (c.as_slice-3.ensures, c.as_slice-4.ensures, c.in_ok-places.ensures.kinds) at c.in_ok-draft.ensures in
+    let fault = c.in-Err-Wrong in
+    let wrong = rw fault.field-0-is at fault.ensures.wrong in
+    let first = wrong (table_of form) (sym plan) in
+    let pointer = rw (c.as_slice-in-Err-Wrong.ensures, c.as_slice-in-Err-Wrong-2.ensures, c.as_slice-in-Err-Wrong-3.ensures, c.in_ok-places.ensures.places) at c.in_ok-pointer_to-in-Err-Wrong.ensures in
+    at_type c.in-Some.root fault.t.0 c.in_ok-pointer_to-in-Err-Wrong.field-0 fault.rule is first pointer
