@@ -1,115 +1,106 @@
 //! A case as a block of lines tells it.
+//!
+//! A line is a key, a blank and a value, and a key that isn't there has what stands for it below.
+//! `schema FILE` or `text TEXT` is the contents of `schema.json`, each `input TEXT` a link and each
+//! `body TEXT` a link with a request to `/check`; `reply TEXT` is what must be written to the first
+//! link, or `answer CODE TEXT` the reply with this body.
 use crate::text::{bytes_of, push_bytes};
 use edge_core::{Calls, Inputs};
 use list_core::Parts;
 use snap_core::{Bytes, Txt};
 use std::alloc::{AllocError, Global};
-use std::rt::Files;
-use std::{fs, io};
 
-/// What a run is given, and what must come of it.
-#[derive(Drop)]
-pub struct Case {
-    /// The words of the command line.
-    pub words: Parts<Txt>,
-    /// The contents of the one file, `schema.json`.
-    pub schema: Bytes,
-    /// What the links bring.
-    pub inputs: Inputs,
-    /// The most bytes that a read of a link takes.
-    pub cut: usize,
-    /// The most bytes that a writing to a link takes.
-    pub piece: usize,
-    /// The room for all that is written to a link.
-    pub space: usize,
-    /// The numbers of the calls that fail.
-    pub world_fails: Calls,
-    pub door_fails: Calls,
-    pub status: u8,
-    /// What must be written to the first link, to standard output and to standard error.
-    pub reply: Bytes,
-    pub out: Bytes,
-    pub err: Bytes,
+/// The keys that a line may begin with.
+const KEYS: &[&str] = &[
+    "schema",
+    "text",
+    "words",
+    "input",
+    "body",
+    "cut",
+    "piece",
+    "space",
+    "fail-world",
+    "fail-door",
+    "status",
+    "reply",
+    "answer",
+    "out",
+    "err",
+];
+
+/// Whether a line is one of a case.
+pub fn is_line(line: &str) -> bool {
+    let (key, _) = parts_of(line);
+    KEYS.contains(&key)
 }
 
-impl Case {
-    /// A run by an empty schema file with no link, of which nothing comes.
-    pub fn new(alloc: Global) -> Result<Case, AllocError> {
-        Ok(Case {
-            words: words_of(alloc, "run schema.json")?,
-            schema: Bytes::new(alloc),
-            inputs: Inputs::new(alloc),
-            cut: 1000,
-            piece: 1000,
-            space: 1000,
-            world_fails: Calls::new(alloc),
-            door_fails: Calls::new(alloc),
-            status: 0,
-            reply: Bytes::new(alloc),
-            out: Bytes::new(alloc),
-            err: Bytes::new(alloc),
-        })
-    }
+// The key and the value of a line.
+fn parts_of(line: &str) -> (&str, &str) {
+    line.split_once(' ').unwrap_or((line, ""))
 }
 
-/// Reads a line into a case, and answers whether it is one of a case.
-///
-/// A line is a key, a blank and a value. `schema FILE` and `text TEXT` are the contents of
-/// `schema.json`, `input TEXT` a link, `body TEXT` a link with a request to `/check`, `reply TEXT` what
-/// is written to the first link, and `answer CODE TEXT` a reply with this body.
-pub fn read_line<R: Files + AllocGlobal>(rt: &R, case: &mut Case, line: &str) -> io::Result<bool> {
-    let alloc = rt.alloc();
-    let (key, value) = line.split_once(' ').unwrap_or((line, ""));
-    match key {
-        "#" => Ok(true),
-        "schema" => {
-            let text = fs::read_to_string(rt, value)?;
-            case.schema = Bytes::from_slice(alloc, text.as_str().as_bytes())?;
-            Ok(true)
+/// The value of the first line with this key.
+pub fn value_of<'a>(block: &'a str, key: &str) -> Option<&'a str> {
+    for line in block.lines() {
+        let (name, value) = parts_of(line);
+        if name == key {
+            return Some(value);
         }
-        _ => Ok(read_text(alloc, case, key, value)? || read_number(alloc, case, key, value)?),
+    }
+    None
+}
+
+/// The number that stands under a key, or this one.
+pub fn number_of(block: &str, key: &str, otherwise: u32) -> u32 {
+    match value_of(block, key) {
+        Some(value) => value.parse::<u32>().unwrap_or(otherwise),
+        None => otherwise,
     }
 }
 
-// Reads a line whose value is a text.
-fn read_text(alloc: Global, case: &mut Case, key: &str, value: &str) -> Result<bool, AllocError> {
-    match key {
-        "words" => case.words = words_of(alloc, value)?,
-        "text" => case.schema = bytes_of(alloc, value)?,
-        "input" => case.inputs.push(bytes_of(alloc, value)?)?,
-        "body" => case.inputs.push(request_of(alloc, value)?)?,
-        "reply" => case.reply = bytes_of(alloc, value)?,
-        "answer" => case.reply = reply_of(alloc, value)?,
-        "out" => case.out = bytes_of(alloc, value)?,
-        "err" => case.err = bytes_of(alloc, value)?,
-        _ => return Ok(false),
-    }
-    Ok(true)
+/// The bytes that the text under a key spells: none where it isn't there.
+pub fn text_of(alloc: Global, block: &str, key: &str) -> Result<Bytes, AllocError> {
+    bytes_of(alloc, value_of(block, key).unwrap_or(""))
 }
 
-// Reads a line whose value is a number.
-fn read_number(alloc: Global, case: &mut Case, key: &str, value: &str) -> Result<bool, AllocError> {
-    let Ok(number) = value.parse::<u32>() else {
-        return Ok(false);
-    };
-    match key {
-        "cut" => case.cut = number as usize,
-        "piece" => case.piece = number as usize,
-        "space" => case.space = number as usize,
-        "fail-world" => case.world_fails = Calls::from_slice(alloc, &[u64::from(number)])?,
-        "fail-door" => case.door_fails = Calls::from_slice(alloc, &[u64::from(number)])?,
-        "status" => case.status = u8::try_from(number).unwrap_or(u8::MAX),
-        _ => return Ok(false),
-    }
-    Ok(true)
-}
-
-fn words_of(alloc: Global, line: &str) -> Result<Parts<Txt>, AllocError> {
+/// The words of the command line: `run schema.json` where none are given.
+pub fn words_of(alloc: Global, block: &str) -> Result<Parts<Txt>, AllocError> {
     let mut words = Parts::new(alloc);
-    for word in line.split_whitespace() {
+    for word in value_of(block, "words")
+        .unwrap_or("run schema.json")
+        .split_whitespace()
+    {
         words.push(Txt::copy(alloc, word)?)?;
     }
     Ok(words)
+}
+
+/// What the links bring.
+pub fn inputs_of(alloc: Global, block: &str) -> Result<Inputs, AllocError> {
+    let mut inputs = Inputs::new(alloc);
+    for line in block.lines() {
+        let (key, value) = parts_of(line);
+        if key == "input" {
+            inputs.push(bytes_of(alloc, value)?)?;
+        } else if key == "body" {
+            inputs.push(request_of(alloc, value)?)?;
+        }
+    }
+    Ok(inputs)
+}
+
+/// The one call that fails, where its number stands under a key.
+pub fn calls_of(alloc: Global, block: &str, key: &str) -> Result<Calls, AllocError> {
+    Calls::from_slice(alloc, &[u64::from(number_of(block, key, 0))])
+}
+
+/// What must be written to the first link.
+pub fn reply_of(alloc: Global, block: &str) -> Result<Bytes, AllocError> {
+    match value_of(block, "answer") {
+        Some(answer) => answer_of(alloc, answer),
+        None => text_of(alloc, block, "reply"),
+    }
 }
 
 // A request to `/check` with this body.
@@ -119,25 +110,31 @@ fn request_of(alloc: Global, text: &str) -> Result<Bytes, AllocError> {
         "POST /check HTTP/1.1\r\nContent-Length: {}\r\n\r\n",
         body.len()
     )?;
-    let mut request = Bytes::from_slice(alloc, head.as_str().as_bytes())?;
-    push_bytes(&mut request, body.as_slice())?;
-    Ok(request)
+    joined(alloc, head.as_str(), &body)
 }
 
 // The reply with a status and this body.
-fn reply_of(alloc: Global, value: &str) -> Result<Bytes, AllocError> {
-    let (status, text) = value.split_once(' ').unwrap_or((value, ""));
-    let phrase = match status {
-        "200" => "OK",
-        "400" => "Bad Request",
-        _ => "Unprocessable Entity",
-    };
+fn answer_of(alloc: Global, value: &str) -> Result<Bytes, AllocError> {
+    let (status, text) = parts_of(value);
+    let phrase = phrase_of(status);
     let body = bytes_of(alloc, text)?;
     let head = format!(in alloc;
         "HTTP/1.1 {status} {phrase}\r\nContent-Type: application/json\r\nContent-Length: {}\r\n\r\n",
         body.len()
     )?;
-    let mut reply = Bytes::from_slice(alloc, head.as_str().as_bytes())?;
-    push_bytes(&mut reply, body.as_slice())?;
-    Ok(reply)
+    joined(alloc, head.as_str(), &body)
+}
+
+fn phrase_of(status: &str) -> &str {
+    match status {
+        "200" => "OK",
+        "400" => "Bad Request",
+        _ => "Unprocessable Entity",
+    }
+}
+
+fn joined(alloc: Global, head: &str, body: &Bytes) -> Result<Bytes, AllocError> {
+    let mut bytes = Bytes::from_slice(alloc, head.as_bytes())?;
+    push_bytes(&mut bytes, body.as_slice())?;
+    Ok(bytes)
 }

@@ -4,12 +4,13 @@
 #![tactic(auto)]
 
 mod case;
-mod difference;
+mod run;
 mod slow_door;
 mod text;
 
-use crate::case::{Case, read_line};
-use crate::difference::tell_difference;
+use crate::case::{is_line, number_of, reply_of, text_of, value_of};
+use crate::run::outcome_of;
+use snap_core::Bytes;
 use std::io::Print;
 use std::rt::Files;
 use std::{fs, io};
@@ -41,24 +42,94 @@ fn try_table<R: Files + AllocGlobal + Print>(rt: &R, table: &str) -> io::Result<
     for block in text.as_str().split("\n\n") {
         if !block.trim().is_empty() {
             count = count.saturating_add(1);
+            try_lines(rt, table, count, block)?;
             try_block(rt, table, count, block)?;
         }
     }
     Ok(count)
 }
 
-// Tries the case of a block, and prints what differs and each line that is none of a case.
+// Prints each line of a block that is none of a case.
+fn try_lines<R: Print>(rt: &R, table: &str, number: u64, block: &str) -> io::Result<()> {
+    for line in block.lines() {
+        if !is_line(line) {
+            println!(rt; "{table} {number}: no line of a case: {line}")?;
+        }
+    }
+    Ok(())
+}
+
+// Runs the case of a block, and prints what is other than it wants.
 fn try_block<R: Files + AllocGlobal + Print>(
     rt: &R,
     table: &str,
     number: u64,
     block: &str,
 ) -> io::Result<()> {
-    let mut case = Case::new(rt.alloc())?;
-    for line in block.lines() {
-        if !read_line(rt, &mut case, line)? {
-            println!(rt; "{table} {number}: no line of a case: {line}")?;
-        }
+    let alloc = rt.alloc();
+    let outcome = outcome_of(alloc, schema_of(rt, block)?, block)?;
+    let status = number_of(block, "status", 0);
+    if u32::from(outcome.status) != status {
+        println!(rt; "{table} {number}: status {}, not {status}", outcome.status)?;
     }
-    tell_difference(rt, table, number, case)
+    tell(
+        rt,
+        table,
+        number,
+        "reply",
+        &outcome.reply,
+        &reply_of(alloc, block)?,
+    )?;
+    tell(
+        rt,
+        table,
+        number,
+        "next link",
+        &outcome.next,
+        &Bytes::new(alloc),
+    )?;
+    tell(
+        rt,
+        table,
+        number,
+        "out",
+        &outcome.out,
+        &text_of(alloc, block, "out")?,
+    )?;
+    tell(
+        rt,
+        table,
+        number,
+        "err",
+        &outcome.err,
+        &text_of(alloc, block, "err")?,
+    )
+}
+
+// The contents of the schema file.
+fn schema_of<R: Files + AllocGlobal>(rt: &R, block: &str) -> io::Result<Bytes> {
+    match value_of(block, "schema") {
+        Some(name) => {
+            let text = fs::read_to_string(rt, name)?;
+            Ok(Bytes::from_slice(rt.alloc(), text.as_str().as_bytes())?)
+        }
+        None => Ok(text_of(rt.alloc(), block, "text")?),
+    }
+}
+
+// Prints bytes that are other than wanted.
+fn tell<R: AllocGlobal + Print>(
+    rt: &R,
+    table: &str,
+    number: u64,
+    what: &str,
+    found: &Bytes,
+    wanted: &Bytes,
+) -> io::Result<()> {
+    if found.as_slice() == wanted.as_slice() {
+        return Ok(());
+    }
+    let found = String::from_utf8_lossy(rt.alloc(), found.as_slice())?;
+    let wanted = String::from_utf8_lossy(rt.alloc(), wanted.as_slice())?;
+    println!(rt; "{table} {number}: {what} is {found:?}, not {wanted:?}")
 }
