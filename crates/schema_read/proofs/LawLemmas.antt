@@ -3,7 +3,6 @@ use Rattle.std.proofs.Common.{◌≡◌, ℕ, [], Option, Some, None, refl, sym,
 use Rattle.std.specs.Prelude.{IsSomeAnd}
 use Rattle.std.proofs.lemmas.Option.{same_Some}
 use Rattle.snap_core.specs.Value.{Value}
-use Rattle.snap_core.specs.declared.number.ModelNo.{ModelNo}
 use Rattle.pointer_core.specs.Path.{Path}
 use Rattle.pointer_core.specs.declared.schema_rule.SchemaRule.{SchemaRule}
 use Rattle.snap_json.specs.Loose.{loosely}
@@ -13,10 +12,9 @@ use Rattle.type_core.specs.Faults.{HasFault}
 use Rattle.schema_form.specs.declared.form.SchemaForm.{SchemaForm}
 use Rattle.schema_form.specs.declared.fault.Fault.{Fault}
 use Rattle.schema_form.specs.Faults.{file_faults, first}
-use Rattle.schema_form.specs.Form.{IsForm}
 use Rattle.schema_form.specs.Pointers.{places_of}
 use Rattle.expr_core.specs.Schema.{Schema}
-use Rattle.schema_read.specs.Types.{table_of, root_of}
+use Rattle.schema_read.specs.Types.{table_of}
 use Rattle.schema_read.specs.Schema.{Means, IsFirstOf, at_root, at_type, IsSchema, IsFirst, in_file, in_form}
 use Rattle.schema_read.specs.Laws.{SchemaHasNoFault, FirstFaultIsOne, FileIsOneSchema}
 use Rattle.schema_read.proofs.Single.{one_form, one_pointer, one_fault}

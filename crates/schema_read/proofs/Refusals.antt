@@ -1,5 +1,5 @@
 -- A fact of what a refusal says follows from another.
-use Rattle.std.specs.Prelude.{Result, Ok, Err}
+use Rattle.std.specs.Prelude.{Result, Err}
 use Rattle.pointer_core.specs.Path.{Path}
 use Rattle.pointer_core.specs.declared.schema_rule.SchemaRule.{SchemaRule}
 use Rattle.schema_read.specs.declared.error.SchemaError.{SchemaError}

@@ -22,7 +22,7 @@ use Rattle.schema_form.specs.declared.form.Holder.TheVariants.{Maybe, MaybeNull,
 use Rattle.schema_form.specs.declared.form.Kind.{Kind}
 use Rattle.schema_form.specs.declared.form.Kind.TheVariants as kind
 use Rattle.schema_form.specs.Form.{IsWhole, IsKindIn}
-use Rattle.schema_read.specs.Types.{type_of, plain_shape, holder_shape, kind_shape, models_from, own_shapes, kinds_of, put_together, table_of, as_model, root_of}
+use Rattle.schema_read.specs.Types.{type_of, plain_shape, holder_shape, kind_shape, models_from, own_shapes, kinds_of, table_of, as_model, root_of}
 use Rattle.schema_read.specs.Assembly.{NamesEntry, IsKindOf, IsFit, AreWhole}
 
 All-at : {X : Type 0} (P : X → Type 0) (xs : List X) → ((n : ℕ) (x : X) → slice_get xs n ≡ Some x → P x) → All P xs

@@ -31,8 +31,8 @@ loop-kind-preserved c =
       models = models_are ∙ l.invariant.models;
     }
 
-pub kind_shape-requires-in-Some : goal.kind_shape-requires-in-Some
-kind_shape-requires-in-Some c =
+pub kind_shape-requires : goal.kind_shape-requires
+kind_shape-requires c =
     let l = c.loop-kind in
     (All-pop (IsKindOf c.args.entries.now l.draft) l.kinds c.pop.new.self (Some c.in-Some.kind) c.in-Some.ensures.some l.invariant.known).1.entry
 

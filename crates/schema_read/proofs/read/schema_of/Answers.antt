@@ -3,7 +3,7 @@ use Rattle.std.specs.Prelude.{IsSome}
 use Rattle.type_core.specs.Table.{Plan, plan_of}
 use Rattle.type_core.proofs.Plans.{same_table}
 use Rattle.schema_read.specs.Types.{table_of, root_of}
-use Rattle.schema_read.specs.Schema.{IsFirstOf, at_root, at_type}
+use Rattle.schema_read.specs.Schema.{at_root, at_type}
 use Rattle.schema_read.proofs.Faulty.{HasFault-expression}
 use Rattle.schema_read.proofs.Filling.{All-IsSome}
 use Rattle.schema_read.proofs.Whole.{AreWhole-form, root-below}
