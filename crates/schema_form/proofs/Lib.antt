@@ -1,0 +1,9 @@
+pub mod Naming
+pub mod Linking
+pub mod NoFaults
+pub mod Plain
+pub mod Finding
+pub mod Shapes
+pub mod Texts
+pub mod Laying
+pub mod Whole
