@@ -1,5 +1,6 @@
 -- Steps of a walk that lays type expressions: what is laid so far, and what is still to come behind it.
-use Rattle.std.proofs.Common.{◌≡◌, ◌≢◌, ◌≤◌, ℕ, ◌+◌, ◌<◌, List, [], ◌∷◌, ◌++◌, length, get_or, drop, refl, sym, ◌∙◌, ap, subst, arith, drop-cons, add-one, append_assoc, length-append}
+use Rattle.std.proofs.Common.{◌≡◌, ◌≢◌, ◌≤◌, ℕ, ◌+◌, ◌<◌, List, [], ◌∷◌, ◌++◌, length, get_or, drop, Option, Some, Result, Ok, Err, option_map, refl, sym, ◌∙◌, ap, subst, arith, drop-cons, add-one, append_assoc, length-append}
+use Rattle.std.specs.Prelude.{OnOk}
 use Rattle.std.proofs.Math.ListN.{set}
 use Rattle.std.proofs.lemmas.List.{append-nil, drop_all, set_at}
 use Rattle.snap_core.specs.Value.{Value, list, dict, no_parts, part, no_members, member, Items, Fields}
@@ -9,8 +10,12 @@ use Rattle.snap_core.specs.declared.number.TypeNo.{TypeNo}
 use Rattle.snap_core.specs.declared.number.ModelNo.{ModelNo}
 use Rattle.snap_core.specs.View.{view, items_view, fields_view}
 use Rattle.snap_core.specs.Unview.{snap_of}
-use Rattle.snap_core.proofs.Views.{entry-fields}
+use Rattle.snap_core.proofs.Views.{entry-fields, snap_of-view}
 use Rattle.type_core.specs.declared.shape.Property.{Property}
+use Rattle.type_core.specs.declared.shape.Condition.{Condition}
+use Rattle.schema_form.specs.declared.form.Word.{Word}
+use Rattle.schema_form.specs.declared.bases.Base.{Base}
+use Rattle.schema_form.specs.Names.{word_in}
 use Rattle.schema_form.specs.declared.form.Expression.{Expression}
 use Rattle.schema_form.specs.declared.form.Place.{Place}
 use Rattle.schema_form.specs.declared.form.Place.TheVariants as place
@@ -118,3 +123,71 @@ pub union_set : (old after new : List Expression) (e e' : Expression) (parts : �
     → new ≡ after ++ parts (length after) → set new own e' ≡ old ++ e' ∷ parts (length old + 1)
 union_set old after new e e' parts own first added is =
     ap (λ xs. set xs own e') (pushed_part old after new e parts added is) ∙ set_at old e (parts (length old + 1)) e' own (sym first)
+
+type_no-is : (u : TypeNo) (n : ℕ) → u.0 ≡ n → u ≡ type_no n
+type_no-is u n e = ap type_no e
+
+-- a base and its conditions, and the base behind it
+pub refined-all : (types : Fields) (vs : List Snap) (t cs : Snap) (at : Place) (old mid new : List Expression) (own : ℕ) (next : TypeNo) (w : Word) (b : Base) (conditions : List Condition)
+    → length vs ≡ 2 → t ≡ get_or vs 0 t → cs ≡ get_or vs 1 cs → own ≡ length old → next.0 ≡ length old + 1
+    → word_in types (view t) ≡ Some w → base_in types (view t) ≡ Some b → conditions ≡ conditions_of (Some b) (view cs)
+    → mid ≡ old ++ record { place = at; kind = kind.Refinement next conditions } ∷ []
+    → new ≡ mid ++ record { place = place.Part (type_no own) step.Refined; kind = kind.Word w } ∷ []
+    → new ≡ old ++ inside_laid types (form.Leaf leaf.Refinement) (list tt (items_view vs)) (length old) at
+refined-all types vs t cs at old mid new own next w b conditions two first second here after is_word is_base are added then =
+    let n : ℕ = length old in
+    let one : Expression = record { place = at; kind = kind.Refinement next conditions } in
+    let other : Expression = record { place = place.Part (type_no own) step.Refined; kind = kind.Word w } in
+    let with_number : TypeNo → Expression = λ u. record { place = at; kind = kind.Refinement u conditions } in
+    let with_conditions : List Condition → Expression = λ cs. record { place = at; kind = kind.Refinement (type_no (n + 1)) cs } in
+    let with_place : ℕ → List Expression = λ m. record { place = place.Part (type_no m) step.Refined; kind = kind.Word w } ∷ [] in
+    let one_is : one ≡ with_conditions (conditions_of (base_in types (view t)) (view cs)) =
+    ap with_number (type_no-is next (n + 1) after) ∙ ap with_conditions (are ∙ ap (λ o. conditions_of o (view cs)) (sym is_base)) in
+    let other_is : other ∷ [] ≡ base_laid types (list tt (part (view t) no_parts)) n =
+    ap with_place here ∙ ap (λ o. said (place.Part (type_no n) step.Refined) (option_map kind.Word o)) (sym is_word) in
+    then ∙ ap (λ xs. xs ++ other ∷ []) added ∙ append_assoc old (one ∷ []) (other ∷ [])
+    ∙ ap (λ e. old ++ e ∷ other ∷ []) one_is
+    ∙ ap (λ xs. old ++ with_conditions (conditions_of (base_in types (view t)) (view cs)) ∷ xs) other_is
+    ∙ ap (λ xs. old ++ xs) (sym (refined_laid types vs t cs n at two first second))
+
+-- a type and its default
+pub defaulted-all : (types : Fields) (vs : List Snap) (v d default : Snap) (at : Place) (old mid new : List Expression) (own : ℕ) (next : TypeNo)
+    → length vs ≡ 2 → v ≡ get_or vs 0 v → d ≡ get_or vs 1 d → own ≡ length old → next.0 ≡ length old + 1 → default ≡ d
+    → mid ≡ old ++ record { place = at; kind = kind.Optional next default } ∷ []
+    → new ≡ mid ++ type_laid types (view v) (length mid) (place.Part (type_no own) step.Defaulted)
+    → new ≡ old ++ inside_laid types form.Optional (list tt (items_view vs)) (length old) at
+defaulted-all types vs v d default at old mid new own next two first second here after same added then =
+    let n : ℕ = length old in
+    let one : Expression = record { place = at; kind = kind.Optional next default } in
+    let with_number : TypeNo → Expression = λ u. record { place = at; kind = kind.Optional u default } in
+    let with_default : Snap → Expression = λ s. record { place = at; kind = kind.Optional (type_no (n + 1)) s } in
+    let parts : ℕ → ℕ → List Expression = λ u m. type_laid types (view v) m (place.Part (type_no u) step.Defaulted) in
+    let one_is : one ≡ with_default (snap_of (view d)) = ap with_number (type_no-is next (n + 1) after) ∙ ap with_default (same ∙ sym (snap_of-view d)) in
+    pushed_part old mid new one (parts own) added then
+    ∙ ap (λ e. old ++ e ∷ parts own (n + 1)) one_is
+    ∙ ap (λ u. old ++ with_default (snap_of (view d)) ∷ parts u (n + 1)) here
+    ∙ ap (λ xs. old ++ xs) (sym (defaulted_laid types vs v d n at two first second))
+
+-- a union and its members
+pub union-all : (types : Fields) (vs : List Snap) (at : Place) (old mid after new : List Expression) (own : ℕ) (members : List TypeNo)
+    → own ≡ length old → mid ≡ old ++ record { place = at; kind = kind.Union [] } ∷ []
+    → after ≡ mid ++ members_laid own 0 (parts_laid_of types (items_view vs)) (length mid)
+    → members ≡ member_numbers own 0 (parts_laid_of types (items_view vs)) (length mid)
+    → new ≡ set after own (record { place = at; kind = kind.Union members })
+    → new ≡ old ++ inside_laid types form.Union (list tt (items_view vs)) (length old) at
+union-all types vs at old mid after new own members here added then numbered put =
+    let n : ℕ = length old in
+    let ls : List Layout = parts_laid_of types (items_view vs) in
+    let union : List TypeNo → Expression = λ us. record { place = at; kind = kind.Union us } in
+    let longer : length mid ≡ n + 1 = ap length added ∙ length-append old (union [] ∷ []) in
+    let members_is : members ≡ member_numbers n 0 ls (n + 1) = numbered ∙ ap (λ m. member_numbers own 0 ls m) longer ∙ ap (λ u. member_numbers u 0 ls (n + 1)) here in
+    put ∙ union_set old mid after (union []) (union members) (λ m. members_laid own 0 ls m) own here added then
+    ∙ ap (λ us. old ++ union us ∷ members_laid own 0 ls (n + 1)) members_is
+    ∙ ap (λ u. old ++ union (member_numbers n 0 ls (n + 1)) ∷ members_laid u 0 ls (n + 1)) here
+
+pub OnOk-of : {T E P : Type 0} (r : Result T E) → P → OnOk r P
+OnOk-of (Ok v) p = p
+OnOk-of (Err e) p = tt
+
+pub OnOk-at : {T E P : Type 0} (r : Result T E) (x : T) → r ≡ Ok x → OnOk r P → P
+OnOk-at {T} {E} {P} r x e h = let Q : Result T E → Type 0 = λ q. OnOk q P in subst Q e h

@@ -79,9 +79,9 @@ name-unknown types s rule h = ap (λ b. unless b rule) (sym (is_some-entry_from 
 
 by_word : (types : Fields) (s : List ℕ) (plain : Option Plain) (entry : Option EntryNo) (w : Option Word) → plain_of s ≡ plain → entry_of types s ≡ entry → w ≡ plain_or plain entry
     → (if is_some plain then [] else unless (has_key s types) Name) ≡ (if is_some w then [] else here Name)
-by_word types s (Some p) entry w is at h = rw h refl
-by_word types s None (Some e) w is at h = rw h (name-known types s e Name (sym at))
-by_word types s None None w is at h = rw h (name-unknown types s Name (sym at))
+by_word types s (Some p) entry w is at h = ap (λ (o : Option Word). if is_some o then [] else here Name) (sym h)
+by_word types s None (Some e) w is at h = name-known types s e Name (sym at) ∙ ap (λ (o : Option Word). if is_some o then [] else here Name) (sym h)
+by_word types s None None w is at h = name-unknown types s Name (sym at) ∙ ap (λ (o : Option Word). if is_some o then [] else here Name) (sym h)
 
 word_faults-is : (types : Fields) (s : List ℕ) (w : Option Word) → w ≡ word_of types s → word_faults types s ≡ (if is_some w then [] else here Name)
 word_faults-is types s w h = by_word types s (plain_of s) (entry_of types s) w refl refl h

@@ -22,12 +22,12 @@ refinement-other types (v ∷ []) other = refl
 refinement-other types (v ∷ w ∷ []) other = absurd (other refl)
 refinement-other types (v ∷ w ∷ x ∷ vs) other = refl
 
-pub refinement-pair : (types : Fields) (vs : List Snap) (t cs : Snap) → length vs ≡ 2 → t ≡ get_or vs 0 t → cs ≡ get_or vs 1 cs
-    → refinement_faults types (list tt (items_view vs)) ≡ under (codes "0") (base_faults types (view t)) ++ under (codes "1") (conditions_faults (base_in types (view t)) (view cs))
-refinement-pair types [] t cs two first second = absurd (omega (arith, two))
-refinement-pair types (x ∷ []) t cs two first second = absurd (omega (arith, two))
-refinement-pair types (x ∷ y ∷ []) t cs two first second = rw (first, second) refl
-refinement-pair types (x ∷ y ∷ z ∷ vs) t cs two first second = absurd (omega (arith, two))
+pub refinement-first : (types : Fields) (vs : List Snap) (t d : Snap) → length vs ≡ 2 → t ≡ get_or vs 0 t
+    → refinement_faults types (list tt (items_view vs)) ≡ under (codes "0") (base_faults types (view t)) ++ under (codes "1") (conditions_faults (base_in types (view t)) (view (get_or vs 1 d)))
+refinement-first types [] t d two first = absurd (omega (arith, two))
+refinement-first types (x ∷ []) t d two first = absurd (omega (arith, two))
+refinement-first types (x ∷ y ∷ []) t d two first = rw (first) refl
+refinement-first types (x ∷ y ∷ z ∷ vs) t d two first = absurd (omega (arith, two))
 
 pub optional-other : (types : Fields) (vs : List Snap) → (length vs ≡ 2 → ⊥) → inside_faults types form.Optional (list tt (items_view vs)) ≡ here Shape
 optional-other types [] other = refl

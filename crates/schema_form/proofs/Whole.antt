@@ -1,5 +1,5 @@
 -- What is laid for a type expression without faults names what is there.
-use Rattle.std.proofs.Common.{◌≡◌, ◌≤◌, ℕ, ◌+◌, ◌<◌, List, [], ◌∷◌, ◌++◌, length, decimal, false, is_some, Option, Some, None, IsTrue, All, codes, option_map, refl, sym, ◌∙◌, ap, subst, arith, length-append}
+use Rattle.std.proofs.Common.{◌≡◌, ◌≤◌, ℕ, ◌+◌, ◌<◌, List, [], ◌∷◌, ◌++◌, length, decimal, false, is_some, Option, Some, None, IsTrue, All, codes, option_map, if◌then◌else◌, refl, sym, ◌∙◌, ap, subst, arith, length-append}
 use Rattle.std.proofs.lemmas.List.{append-nil}
 use Rattle.std.proofs.lemmas.List.Elements.{All-nil, All-cons}
 use Rattle.snap_core.specs.Value.{Value, null, boolean, integer, text, list, dict, no_parts, part, no_members, member, IsPlain, IsOrdered, AreOrdered, Items, Fields}
@@ -31,7 +31,7 @@ use Rattle.schema_form.specs.Layout.{Layout, type_no, said, word_kind, entry_nam
 use Rattle.schema_form.specs.Pointers.{IsPlaceAmong}
 use Rattle.schema_form.specs.Form.{IsKindIn}
 use Rattle.schema_form.proofs.NoFaults.{append_none, under_none, unless_none, here_some}
-use Rattle.schema_form.proofs.Plain.{IsPlain-snap_of}
+use Rattle.schema_form.proofs.PlainValues.{IsPlain-snap_of}
 use Rattle.schema_form.proofs.Naming.{is_some-entry_from}
 
 -- each expression meets P with its number, the first of which is given
@@ -49,7 +49,8 @@ word-known types s (Some p) entry is at none = (word.Plain p, refl)
 word-known types s None (Some e) is at none = (word.Named e, refl)
 word-known types s None None is at none =
     let unknown : has_key s types ≡ false = sym (is_some-entry_from s 0 types) ∙ ap is_some at in
-    let faults : word_faults types s ≡ here Name = rw (is, unknown) refl in
+    let faults : word_faults types s ≡ here Name =
+    ap (λ (o : Option Plain). if is_some o then [] else unless (has_key s types) Name) is ∙ ap (λ b. unless b Name) unknown in
     absurd (here_some Name (sym faults ∙ none))
 
 -- the entry that a text without a fault names
@@ -59,7 +60,7 @@ entry-known types (text s) none = go (entry_of types s) refl where
   go (Some e) at = (e, at)
   go None at =
       let unknown : has_key s types ≡ false = sym (is_some-entry_from s 0 types) ∙ ap is_some at in
-      let faults : name_faults types (text s) ≡ here Name = rw unknown refl in
+      let faults : name_faults types (text s) ≡ here Name = ap (λ b. unless b Name) unknown in
       absurd (here_some Name (sym faults ∙ none))
 entry-known types null none = absurd (here_some Shape none)
 entry-known types (boolean b) none = absurd (here_some Shape none)

@@ -7,3 +7,4 @@ pub mod Pointers
 pub mod Form
 pub mod Outcome
 pub mod Texts
+pub mod Parts

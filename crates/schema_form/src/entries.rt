@@ -39,6 +39,7 @@ pub fn read_types(alloc: Global, value: &Snap) -> Result<Gathered, FormError>
     }
 }
 
+#[tactic(auto, using(crate::proofs::Orders::keyed_by_order))]
 fn read_entries(alloc: Global, types: &[Field]) -> Result<Gathered, FormError>
     requires { AreOrderedMembers (fields_view types.now) }
     ensures finds { Finds result
@@ -130,7 +131,7 @@ impl Gathered {
         let name = read_free_name(self.entries.allocator(), field.key.text(), is_formed)?;
         let of = TypeNo(self.expressions.len());
         let place = Place::Entry(EntryNo(self.entries.len()));
-        read_type(types, bases, &field.value, place, &mut self.expressions)?;
+        read_type(&field.value, types, bases, place, &mut self.expressions)?;
         self.entries.push(Entry { name, of })?;
         Ok(())
     }

@@ -24,9 +24,9 @@ use type_core::Members;
 /// names lead to, and `bases` what each of them is as a base of a refinement.
 #[cycle(expressions)]
 pub fn read_type(
+    value: &Snap,
     types: &[Field],
     bases: &[Option<Base>],
-    value: &Snap,
     place: Place,
     expressions: &mut Expressions,
 ) -> Result<(), FormError>
@@ -38,7 +38,7 @@ pub fn read_type(
 {
     match value {
         Snap::Text(word) => read_word(types, word.text(), place, expressions),
-        Snap::Dict(fields) => read_object(types, bases, fields.as_slice(), place, expressions),
+        Snap::Dict(fields) => read_object(fields.as_slice(), types, bases, place, expressions),
         _ => Err(wrong(expressions.allocator(), SchemaRule::Shape)),
     }
 }
@@ -62,9 +62,9 @@ fn read_word(
 
 #[cycle(expressions)]
 fn read_object(
+    fields: &[Field],
     types: &[Field],
     bases: &[Option<Base>],
-    fields: &[Field],
     place: Place,
     expressions: &mut Expressions,
 ) -> Result<(), FormError>
@@ -78,14 +78,14 @@ fn read_object(
     if fields.len() != 1 {
         return Err(wrong(expressions.allocator(), SchemaRule::Shape));
     }
-    read_keyed(types, bases, &fields[0], place, expressions)
+    read_keyed(&fields[0], types, bases, place, expressions)
 }
 
 #[cycle(expressions)]
 fn read_keyed(
+    field: &Field,
     types: &[Field],
     bases: &[Option<Base>],
-    field: &Field,
     place: Place,
     expressions: &mut Expressions,
 ) -> Result<(), FormError>
@@ -100,17 +100,17 @@ fn read_keyed(
     let Some(form) = form_of(key) else {
         return Err(wrong(expressions.allocator(), SchemaRule::Shape));
     };
-    let inner = read_inside(types, bases, form, &field.value, place, expressions);
+    let inner = read_inside(&field.value, types, bases, form, place, expressions);
     under(key, inner)
 }
 
 /// What stands under the key of a form.
 #[cycle(expressions)]
 fn read_inside(
+    value: &Snap,
     types: &[Field],
     bases: &[Option<Base>],
     form: Form,
-    value: &Snap,
     place: Place,
     expressions: &mut Expressions,
 ) -> Result<(), FormError>
@@ -122,12 +122,12 @@ fn read_inside(
 {
     match (form, value) {
         (Form::Leaf(leaf), _) => read_leaf(types, bases, leaf, value, place, expressions),
-        (Form::Holder(holder), _) => read_held(types, bases, holder, value, place, expressions),
+        (Form::Holder(holder), _) => read_held(value, types, bases, holder, place, expressions),
         (Form::Optional, Snap::List(items)) => {
-            read_defaulted(types, bases, items.as_slice(), place, expressions)
+            read_defaulted(items.as_slice(), types, bases, place, expressions)
         }
         (Form::Union, Snap::List(items)) => {
-            read_union(types, bases, items.as_slice(), place, expressions)
+            read_union(items.as_slice(), types, bases, place, expressions)
         }
         (Form::Optional | Form::Union, _) => {
             Err(wrong(expressions.allocator(), SchemaRule::Shape))
@@ -138,10 +138,10 @@ fn read_inside(
 /// A form that holds one type.
 #[cycle(expressions)]
 fn read_held(
+    value: &Snap,
     types: &[Field],
     bases: &[Option<Base>],
     holder: Holder,
-    value: &Snap,
     place: Place,
     expressions: &mut Expressions,
 ) -> Result<(), FormError>
@@ -155,15 +155,15 @@ fn read_held(
     let kind = Kind::Holder(holder, next_number(expressions));
     expressions.push(Expression { place, kind })?;
     let part = Place::Part(own, Step::Held(holder));
-    read_type(types, bases, value, part, expressions)
+    read_type(value, types, bases, part, expressions)
 }
 
 /// A type and its default.
 #[cycle(expressions)]
 fn read_defaulted(
+    items: &[Snap],
     types: &[Field],
     bases: &[Option<Base>],
-    items: &[Snap],
     place: Place,
     expressions: &mut Expressions,
 ) -> Result<(), FormError>
@@ -183,7 +183,7 @@ fn read_defaulted(
     let kind = Kind::Optional(next_number(expressions), default);
     expressions.push(Expression { place, kind })?;
     let part = Place::Part(own, Step::Defaulted);
-    let of = read_type(types, bases, &items[0], part, expressions);
+    let of = read_type(&items[0], types, bases, part, expressions);
     under("0", of)?;
     under("1", check_numbers(alloc, &items[1]))
 }
@@ -191,9 +191,9 @@ fn read_defaulted(
 /// Two members or more.
 #[cycle(expressions)]
 fn read_union(
+    items: &[Snap],
     types: &[Field],
     bases: &[Option<Base>],
-    items: &[Snap],
     place: Place,
     expressions: &mut Expressions,
 ) -> Result<(), FormError>
@@ -211,7 +211,7 @@ fn read_union(
     let own = TypeNo(expressions.len());
     let kind = Kind::Union(Parts::new(alloc));
     expressions.push(Expression { place, kind })?;
-    let members = read_members(types, bases, items, own, expressions)?;
+    let members = read_members(items, types, bases, own, expressions)?;
     let kind = Kind::Union(members);
     expressions.set(own.0, Expression { place, kind });
     Ok(())
@@ -220,9 +220,9 @@ fn read_union(
 /// The members of the union of this number. Gives their numbers.
 #[cycle(expressions)]
 fn read_members(
+    items: &[Snap],
     types: &[Field],
     bases: &[Option<Base>],
-    items: &[Snap],
     union: TypeNo,
     expressions: &mut Expressions,
 ) -> Result<Members, FormError>
@@ -239,7 +239,7 @@ fn read_members(
     for (index, item) in items.iter().enumerate() {
         members.push(TypeNo(expressions.len()))?;
         let part = Place::Part(union, Step::Member(index));
-        let member = read_type(types, bases, item, part, expressions);
+        let member = read_type(item, types, bases, part, expressions);
         at_index(index, member)?;
     }
     Ok(members)

@@ -1,6 +1,7 @@
 //! Models: properties under names.
 ghost use Rattle.std.specs.Prelude.{◌≡◌, ◌++◌, length, codes, IfOk, OnOk};
 ghost use Rattle.std.specs.Option.{option_copied, option_map};
+ghost use Rattle.std.specs.Str.{bytes_eq};
 ghost use Rattle.snap_core.specs.Value.{AreKeyed, IsOrdered, AreOrderedMembers, dict};
 ghost use Rattle.snap_core.specs.View.{view, fields_view};
 ghost use Rattle.schema_form.specs.Bases.{AreBases};
@@ -75,6 +76,12 @@ fn has_properties(parts: &[Field]) -> bool
     find(parts, "properties").is_some()
 }
 
+fn is_properties(part: &Field) -> bool
+    ensures { result ≡ bytes_eq part.now.key (codes "properties") }
+{
+    part.key.text() == "properties"
+}
+
 /// The parts of a model. Only properties are built so far, so they are the one part.
 fn read_parts(
     types: &[Field],
@@ -98,7 +105,7 @@ fn read_parts(
         return Err(wrong(expressions.allocator(), SchemaRule::Shape));
     }
     let first = &parts[0];
-    if first.key.text() != "properties" {
+    if !is_properties(first) {
         return unknown_part(first, expressions);
     }
     let inner = read_properties(types, bases, &first.value, model, expressions);
@@ -182,6 +189,6 @@ fn read_property(
     let is_formed = is_expression(&field.value);
     let name = read_name(expressions.allocator(), field.key.text(), is_formed)?;
     let of = TypeNo(expressions.len());
-    read_type(types, bases, &field.value, place, expressions)?;
+    read_type(&field.value, types, bases, place, expressions)?;
     Ok(Property { name, of })
 }
