@@ -1,0 +1,14 @@
+pub mod Naming
+pub mod Linking
+pub mod NoFaults
+pub mod PlainValues
+pub mod Finding
+pub mod Shapes
+pub mod Texts
+pub mod Laying
+pub mod Whole
+pub mod Orders
+pub mod Modelling
+pub mod Gathering
+pub mod FileParts
+pub mod Wholeness

@@ -10,6 +10,10 @@ use Rattle.pointer_core.specs.declared.schema_rule.SchemaRule.TheVariants.{Shape
 use Rattle.type_core.specs.declared.shape.Condition.{Condition}
 use Rattle.type_core.specs.declared.shape.Condition.TheVariants.{Min, Max, MinLength, MaxLength, StartsWith}
 use Rattle.schema_form.specs.declared.fault.Fault.{Fault}
+use Rattle.schema_form.specs.declared.fault.FormError.{FormError}
+use Rattle.schema_form.specs.declared.fault.FormError.TheVariants.{Wrong}
+use Rattle.schema_form.specs.declared.words.Leaf.{Leaf}
+use Rattle.schema_form.specs.declared.words.Leaf.TheVariants as leaf
 use Rattle.schema_form.specs.declared.words.Form.{Form}
 use Rattle.schema_form.specs.declared.words.Form.TheVariants as form
 use Rattle.schema_form.specs.declared.bases.Base.{Base}
@@ -124,16 +128,20 @@ abbrev pub numbered : ℕ → List (List Fault) → List Fault
 numbered i [] = []
 numbered i (f ∷ fs) = under (decimal i) f ++ numbered (i + 1) fs
 
+-- the faults of what stands under the key of a form that holds no other form
+abbrev pub leaf_faults : Fields → Leaf → Value → List Fault
+leaf_faults types leaf.Literal v = literal_faults v
+leaf_faults types leaf.Enumeration v = enumeration_faults v
+leaf_faults types leaf.Refinement v = refinement_faults types v
+leaf_faults types leaf.Reference v = name_faults types v
+leaf_faults types leaf.SafeReference v = name_faults types v
+
 -- the faults of what stands under the key of a form: `inner` has those of it and `items` those of its items, each as a type expression
 abbrev pub form_faults : Fields → Form → Value → List Fault → List (List Fault) → List Fault
+form_faults types (form.Leaf l) v inner items = leaf_faults types l v
 form_faults types (form.Holder h) v inner items = inner
-form_faults types form.Literal v inner items = literal_faults v
-form_faults types form.Enumeration v inner items = enumeration_faults v
 form_faults types form.Optional (list a (part t (part d no_parts))) inner (one ∷ rest) = under (codes "0") one ++ under (codes "1") (number_faults d)
 form_faults types form.Union (list a (part t (part u ps))) inner items = numbered 0 items
-form_faults types form.Refinement v inner items = refinement_faults types v
-form_faults types form.Reference v inner items = name_faults types v
-form_faults types form.SafeReference v inner items = name_faults types v
 form_faults types _ v inner items = here Shape
 
 -- the faults of an object with one key, of the form that it stands for
@@ -161,15 +169,22 @@ abbrev mutual
 abbrev pub inside_faults : Fields → Form → Value → List Fault
 inside_faults types form v = form_faults types form v (type_faults types v) (item_faults types v)
 
+-- the faults of an object with this one field
+abbrev pub field_faults : Fields → List ℕ → Value → List Fault
+field_faults types k v = keyed_faults types k (form_of k) v (type_faults types v) (item_faults types v)
+
 -- whether a value is a text or an object whose key stands for a form, whatever stands in it
 abbrev pub is_expression : Value → Bool
 is_expression (text s) = true
 is_expression (dict a (member k v no_members)) = is_some (form_of k)
 is_expression _ = false
 
--- the fault of the key that an expression stands under, which comes after that of its own form and before those of its parts
+-- the fault of a key that is no name: where the value under it isn't of a known form, that comes first
+abbrev pub misnamed : Bool → FormError
+misnamed is_formed = Wrong (record { path = []; rule = if is_formed then Name else Shape })
+
 abbrev pub key_faults : Bool → Bool → List Fault
-key_faults is_formed is_good = if is_formed then unless is_good Name else []
+key_faults is_formed is_good = if is_good then [] else here (if is_formed then Name else Shape)
 
 -- the properties of a model are type expressions under names
 abbrev pub property_faults : Fields → List ℕ → Value → List Fault
@@ -196,11 +211,12 @@ model_in _ = None
 abbrev pub is_free : List ℕ → Bool
 is_free k = is_name k && is_none (plain_of k)
 
+abbrev pub formed_faults : Fields → List ℕ → Value → Option Value → List Fault
+formed_faults types k v (Some model) = key_faults true (is_free k) ++ under (codes "model") (model_faults types model)
+formed_faults types k v None = key_faults (is_expression v) (is_free k) ++ type_faults types v
+
 abbrev pub entry_faults : Fields → List ℕ → Value → List Fault
-entry_faults types k v = by_model (model_in v) where
-  by_model : Option Value → List Fault
-  by_model (Some model) = unless (is_free k) Name ++ under (codes "model") (model_faults types model)
-  by_model None = key_faults (is_expression v) (is_free k) ++ type_faults types v
+entry_faults types k v = formed_faults types k v (model_in v)
 
 abbrev pub types_faults : Value → List Fault
 types_faults (dict a ms) = member_faults (entry_faults ms) ms

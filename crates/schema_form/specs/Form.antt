@@ -14,7 +14,7 @@ use Rattle.schema_form.specs.declared.form.Kind.{Kind}
 use Rattle.schema_form.specs.declared.form.Kind.TheVariants as kind
 use Rattle.schema_form.specs.Faults.{file_faults, entries, types_of}
 use Rattle.schema_form.specs.Pointers.{places_of, ArePlaces}
-use Rattle.schema_form.specs.Layout.{Gathered, gathered, entry_named}
+use Rattle.schema_form.specs.Layout.{gathered, entry_named}
 
 -- the entry that the root names
 abbrev pub root_in : Value → Option Value → Option EntryNo

@@ -9,19 +9,20 @@ use Rattle.type_core.specs.declared.shape.Condition.{Condition}
 use Rattle.type_core.specs.declared.shape.Property.{Property}
 use Rattle.schema_form.specs.declared.form.Expression.{Expression}
 use Rattle.schema_form.specs.declared.form.EntryNo.{EntryNo}
-use Rattle.schema_form.specs.declared.form.Entry.{Entry}
-use Rattle.schema_form.specs.declared.form.ModelForm.{ModelForm}
+use Rattle.schema_form.specs.declared.entries.Gathered.{Gathered}
 use Rattle.schema_form.specs.declared.form.Place.{Place}
 use Rattle.schema_form.specs.declared.form.Place.TheVariants as place
 use Rattle.schema_form.specs.declared.form.Step.{Step}
 use Rattle.schema_form.specs.declared.form.Step.TheVariants as step
 use Rattle.schema_form.specs.declared.form.Kind.{Kind}
 use Rattle.schema_form.specs.declared.form.Kind.TheVariants as kind
+use Rattle.schema_form.specs.declared.words.Leaf.{Leaf}
+use Rattle.schema_form.specs.declared.words.Leaf.TheVariants as leaf
 use Rattle.schema_form.specs.declared.words.Form.{Form}
 use Rattle.schema_form.specs.declared.words.Form.TheVariants as form
 use Rattle.schema_form.specs.declared.bases.Base.{Base}
 use Rattle.schema_form.specs.Words.{form_of}
-use Rattle.schema_form.specs.Names.{entry_of, word_of}
+use Rattle.schema_form.specs.Names.{entry_of, word_of, word_in}
 use Rattle.schema_form.specs.Faults.{base_in, condition_of, model_in, entries}
 
 abbrev pub type_no : ℕ → TypeNo
@@ -59,16 +60,21 @@ entry_named types _ = None
 abbrev pub Layout : Type 0
 Layout = ℕ → Place → List Expression
 
--- what an object with one key says, by the form of the key: the number after its own is that of its only part, and the numbers of a union's members are given
+-- what an object with one key says, by the form of the key: the number of its first part is given
+abbrev pub leaf_kind : Fields → Leaf → Value → TypeNo → Option Kind
+leaf_kind types leaf.Literal v u = Some (kind.Literal (snap_of v))
+leaf_kind types leaf.Enumeration v u = Some (kind.Enumeration (texts_of v))
+leaf_kind types leaf.Refinement (list a (part t (part cs no_parts))) u = Some (kind.Refinement u (conditions_of (base_in types t) cs))
+leaf_kind types leaf.Reference v u = option_map kind.Reference (entry_named types v)
+leaf_kind types leaf.SafeReference v u = option_map kind.SafeReference (entry_named types v)
+leaf_kind types _ v u = None
+
+-- and the numbers of a union's members
 abbrev pub form_kind : Fields → Form → Value → TypeNo → List TypeNo → Option Kind
+form_kind types (form.Leaf l) v u us = leaf_kind types l v u
 form_kind types (form.Holder h) v u us = Some (kind.Holder h u)
-form_kind types form.Literal v u us = Some (kind.Literal (snap_of v))
-form_kind types form.Enumeration v u us = Some (kind.Enumeration (texts_of v))
 form_kind types form.Optional (list a (part t (part d no_parts))) u us = Some (kind.Optional u (snap_of d))
 form_kind types form.Union v u us = Some (kind.Union us)
-form_kind types form.Refinement (list a (part t (part cs no_parts))) u us = Some (kind.Refinement u (conditions_of (base_in types t) cs))
-form_kind types form.Reference v u us = option_map kind.Reference (entry_named types v)
-form_kind types form.SafeReference v u us = option_map kind.SafeReference (entry_named types v)
 form_kind types _ v u us = None
 
 -- the numbers at which some layouts begin, one after another, each as a member of the union of number u
@@ -90,16 +96,16 @@ said at what = one_of (option_map (λ k. record { place = at; kind = k }) what)
 abbrev pub word_kind : Fields → List ℕ → Option Kind
 word_kind types s = option_map kind.Word (word_of types s)
 
--- the base of a refinement, which is a text
+-- the base of a refinement
 abbrev pub base_laid : Fields → Value → ℕ → List Expression
-base_laid types (list a (part (text s) ps)) n = said (place.Part (type_no n) step.Refined) (word_kind types s)
+base_laid types (list a (part t ps)) n = said (place.Part (type_no n) step.Refined) (option_map kind.Word (word_in types t))
 base_laid types _ n = []
 
 -- the parts of an object with one key, by the form of the key: its value's layout and those of its value's items are given
 abbrev pub parts_laid : Fields → Form → Value → Layout → List Layout → ℕ → List Expression
 parts_laid types (form.Holder h) v inner items n = inner (n + 1) (place.Part (type_no n) (step.Held h))
 parts_laid types form.Optional v inner (one ∷ rest) n = one (n + 1) (place.Part (type_no n) step.Defaulted)
-parts_laid types form.Refinement v inner items n = base_laid types v n
+parts_laid types (form.Leaf leaf.Refinement) v inner items n = base_laid types v n
 parts_laid types form.Union v inner items n = members_laid n 0 items (n + 1)
 parts_laid types _ v inner items n = []
 
@@ -126,7 +132,10 @@ abbrev mutual
   parts_laid_of types no_parts = []
   parts_laid_of types (part v ps) = type_laid types v ∷ parts_laid_of types ps
 
--- an object with one key of a form
+-- an object with one field, and one with a field of a known form
+abbrev pub field_laid : Fields → List ℕ → Value → Layout
+field_laid types k v n at = keyed_laid types (form_of k) v (type_laid types v) (items_laid types v) n at
+
 abbrev pub inside_laid : Fields → Form → Value → Layout
 inside_laid types form v n at = form_laid types form v (type_laid types v) (items_laid types v) n at
 
@@ -147,12 +156,6 @@ abbrev pub properties_in : Value → Fields
 properties_in (dict a (member k v no_members)) = entries v
 properties_in _ = no_members
 
--- what the walk has gathered so far: it goes from entry to entry
-pub record Gathered : Type 0 where
-  pub entries : List Entry
-  pub expressions : List Expression
-  pub models : List ModelForm
-
 -- an entry that is a model, and one that isn't
 abbrev pub with_model : Fields → Gathered → List ℕ → Fields → Gathered
 with_model types g k ps =
@@ -172,11 +175,12 @@ with_type types g k v =
       models = g.models;
     }
 
+abbrev pub with_formed : Fields → Gathered → List ℕ → Value → Option Value → Gathered
+with_formed types g k v (Some model) = with_model types g k (properties_in model)
+with_formed types g k v None = with_type types g k v
+
 abbrev pub with_entry : Fields → Gathered → List ℕ → Value → Gathered
-with_entry types g k v = by_model (model_in v) where
-  by_model : Option Value → Gathered
-  by_model (Some model) = with_model types g k (properties_in model)
-  by_model None = with_type types g k v
+with_entry types g k v = with_formed types g k v (model_in v)
 
 abbrev pub with_entries : Fields → Gathered → Fields → Gathered
 with_entries types g no_members = g

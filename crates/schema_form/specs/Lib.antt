@@ -1,7 +1,10 @@
 pub mod Words
 pub mod Names
+pub mod Bases
 pub mod Faults
 pub mod Layout
 pub mod Pointers
 pub mod Form
 pub mod Outcome
+pub mod Texts
+pub mod Parts

@@ -32,6 +32,11 @@ plain_or None entry = option_map word.Named entry
 abbrev pub word_of : Fields → List ℕ → Option Word
 word_of types s = plain_or (plain_of s) (entry_of types s)
 
+-- what a value stands for that must be a text
+abbrev pub word_in : Fields → Value → Option Word
+word_in types (text s) = word_of types s
+word_in types _ = None
+
 -- the plain types that may be refined
 abbrev pub plain_base : Plain → Option Base
 plain_base plain.Text = Some base.Texts

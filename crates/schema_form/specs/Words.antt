@@ -5,6 +5,7 @@ use Rattle.schema_form.specs.declared.form.Plain.{Plain}
 use Rattle.schema_form.specs.declared.form.Plain.TheVariants as plain
 use Rattle.schema_form.specs.declared.form.Holder.{Holder}
 use Rattle.schema_form.specs.declared.form.Holder.TheVariants as holder
+use Rattle.schema_form.specs.declared.words.Leaf.TheVariants as leaf
 use Rattle.schema_form.specs.declared.words.Form.{Form}
 use Rattle.schema_form.specs.declared.words.Form.TheVariants as form
 
@@ -23,13 +24,13 @@ plain_of word =
 -- the form of a type expression that is an object with one key
 abbrev pub form_of : List ℕ → Option Form
 form_of key =
-    if bytes_eq key (codes "literal") then Some form.Literal
-    else if bytes_eq key (codes "enumeration") then Some form.Enumeration
+    if bytes_eq key (codes "literal") then Some (form.Leaf leaf.Literal)
+    else if bytes_eq key (codes "enumeration") then Some (form.Leaf leaf.Enumeration)
     else if bytes_eq key (codes "optional") then Some form.Optional
     else if bytes_eq key (codes "union") then Some form.Union
-    else if bytes_eq key (codes "refinement") then Some form.Refinement
-    else if bytes_eq key (codes "reference") then Some form.Reference
-    else if bytes_eq key (codes "safeReference") then Some form.SafeReference
+    else if bytes_eq key (codes "refinement") then Some (form.Leaf leaf.Refinement)
+    else if bytes_eq key (codes "reference") then Some (form.Leaf leaf.Reference)
+    else if bytes_eq key (codes "safeReference") then Some (form.Leaf leaf.SafeReference)
     else if bytes_eq key (codes "maybe") then Some (form.Holder holder.Maybe)
     else if bytes_eq key (codes "maybeNull") then Some (form.Holder holder.MaybeNull)
     else if bytes_eq key (codes "array") then Some (form.Holder holder.Array)

@@ -2,10 +2,20 @@
 #![tactic(auto)]
 
 mod bases;
+mod entries;
+mod enumerations;
+mod expressions;
 mod fault;
 mod file;
 mod form;
+mod keys;
+mod leaves;
+mod models;
+mod names;
+mod numbers;
 mod pointer;
+mod refinements;
+mod walk;
 mod words;
 
 pub use fault::{Fault, FormError};

@@ -23,14 +23,20 @@ pub fn plain_of(word: &str) -> Option<Plain>
 /// The forms of type expressions that are an object with one key.
 #[derive(Clone, Copy)]
 pub enum Form {
-    Literal,
-    Enumeration,
+    Leaf(Leaf),
+    Holder(Holder),
     Optional,
     Union,
+}
+
+/// The forms that hold no other forms.
+#[derive(Clone, Copy)]
+pub enum Leaf {
+    Literal,
+    Enumeration,
     Refinement,
     Reference,
     SafeReference,
-    Holder(Holder),
 }
 
 /// The form that a key stands for.
@@ -38,13 +44,13 @@ pub fn form_of(key: &str) -> Option<Form>
     ensures { result ≡ words.form_of key.now }
 {
     match key {
-        "literal" => Some(Form::Literal),
-        "enumeration" => Some(Form::Enumeration),
+        "literal" => Some(Form::Leaf(Leaf::Literal)),
+        "enumeration" => Some(Form::Leaf(Leaf::Enumeration)),
         "optional" => Some(Form::Optional),
         "union" => Some(Form::Union),
-        "refinement" => Some(Form::Refinement),
-        "reference" => Some(Form::Reference),
-        "safeReference" => Some(Form::SafeReference),
+        "refinement" => Some(Form::Leaf(Leaf::Refinement)),
+        "reference" => Some(Form::Leaf(Leaf::Reference)),
+        "safeReference" => Some(Form::Leaf(Leaf::SafeReference)),
         "maybe" => Some(Form::Holder(Holder::Maybe)),
         "maybeNull" => Some(Form::Holder(Holder::MaybeNull)),
         "array" => Some(Form::Holder(Holder::Array)),

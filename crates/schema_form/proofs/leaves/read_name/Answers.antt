@@ -1,0 +1,11 @@
+use Rattle.snap_core.specs.View.{fields_view}
+use Rattle.pointer_core.specs.declared.schema_rule.SchemaRule.TheVariants.{Name}
+use Rattle.schema_form.proofs.Finding.{tells-here}
+use Rattle.schema_form.proofs.Naming.{name-known, name-unknown}
+use Rattle.schema_form.proofs.leaves.read_name.Goals as goal
+
+pub returns-in-Some-clause-finds : goal.returns-in-Some-clause-finds
+returns-in-Some-clause-finds c = name-known (fields_view c.args.types.now) c.args.name.now c.in-Some.entry Name c.in-Some.ensures
+
+pub returns-in-None-clause-finds : goal.returns-in-None-clause-finds
+returns-in-None-clause-finds c = tells-here c.wrong.result Name _ c.wrong.ensures (name-unknown (fields_view c.args.types.now) c.args.name.now Name c.in-None.ensures)
