@@ -1,7 +1,6 @@
 -- Members of a union, and models, that are told apart one after another, from the last to the first.
-use Rattle.std.proofs.Common.{◌≡◌, List, [], ◌∷◌, ◌++◌, map, length, Bool, true, false, ◌&&◌, not, Option, Some, None, append-nil, append_assoc, refl, sym, ap, ◌∙◌, subst, arith}
+use Rattle.std.proofs.Common.{◌≡◌, List, [], ◌∷◌, ◌++◌, map, length, Bool, true, false, ◌&&◌, not, Option, Some, None, append-nil, append_assoc, refl, sym, ap, ◌∙◌, arith}
 use Rattle.std.specs.List.{list_any}
-use Rattle.std.specs.Bool.{OnTrue}
 use Rattle.snap_core.specs.Value.{Value}
 use Rattle.snap_core.specs.declared.number.TypeNo.{TypeNo}
 use Rattle.type_core.specs.declared.taken.Taken.{Taken}

@@ -1,5 +1,5 @@
 -- Walks through names, optional types, maybes and unions end, where no type leads back to itself.
-use Rattle.std.proofs.Common.{◌≡◌, ℕ, zero, suc, ◌+◌, ◌<◌, ◌≤◌, ◌||◌, List, [], ◌∷◌, length, find, cond, Bool, true, false, Contains, Option, Some, None, if◌then◌else◌, eqb, eqb-true, arith, refl, sym, ◌∙◌, ap, subst, ◌&&◌, not}
+use Rattle.std.proofs.Common.{◌≡◌, ℕ, zero, suc, ◌+◌, ◌<◌, ◌≤◌, ◌||◌, List, [], ◌∷◌, length, find, cond, Bool, true, false, Contains, Option, Some, None, if◌then◌else◌, eqb, eqb-true, arith, refl, sym, ◌∙◌, ap, subst, ◌&&◌}
 use Rattle.std.specs.List.{list_any, AllByRecursion, IsDistinct}
 use Rattle.std.proofs.lemmas.Option.{slice_get_within}
 use Rattle.std.proofs.lemmas.Map.Steps.{length-le_from_distinct_below}

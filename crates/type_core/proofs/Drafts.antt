@@ -1,6 +1,6 @@
 -- The faults of a table, pass by pass, and a table without one.
 use Rattle.std.proofs.Common.{◌≡◌, ℕ, ◌<◌, List, length, Bool, true, false, IsTrue, Option, Some, None, refl, sym, ap, ◌∙◌, subst, inl, inr, arith}
-use Rattle.std.specs.Prelude.{◌⊎◌, MatchBool, IsSome, IfOk, Result, Ok, Err}
+use Rattle.std.specs.Prelude.{MatchBool, IsSome, IfOk, Result, Ok, Err}
 use Rattle.std.proofs.lemmas.Option.{slice_get_within}
 use Rattle.snap_core.specs.Value.{Value}
 use Rattle.snap_core.specs.declared.snap.Snap.{Snap}
@@ -14,7 +14,7 @@ use Rattle.type_core.specs.declared.rule.DraftError.{DraftError}
 use Rattle.type_core.specs.declared.rule.DraftError.TheVariants as fault
 use Rattle.type_core.specs.Table.{Table, Catalog, IsBegun, plan_of, shape_at, default_at}
 use Rattle.type_core.specs.Names.{LeadsTo, named_by}
-use Rattle.type_core.specs.Identifiers.{is_identifier, is_misplaced, misleads}
+use Rattle.type_core.specs.Identifiers.{is_misplaced, misleads}
 use Rattle.type_core.specs.Unions.{are_apart}
 use Rattle.type_core.specs.Making.{absent_made, default_made, absent}
 use Rattle.type_core.specs.Makes.{Makes}

@@ -1,9 +1,8 @@
 -- Making and unions, computed on examples and at their edges.
-use Rattle.std.proofs.Common.{◌≡◌, ℕ, List, [], ◌∷◌, Bool, true, false, Option, Some, None, Ok, Err, map, pos, refl, rules}
+use Rattle.std.proofs.Common.{◌≡◌, ℕ, List, [], ◌∷◌, Bool, true, false, Some, None, Ok, Err, map, pos, refl, rules}
 use Rattle.std.specs.Prelude.{codes, decimal}
-use Rattle.snap_core.specs.Value.{Value, null, boolean, integer, text, list, dict, no_parts, part, no_members, member}
+use Rattle.snap_core.specs.Value.{Value, null, integer, text, list, dict, no_parts, part, no_members, member}
 use Rattle.snap_core.specs.Unview.{snap_of}
-use Rattle.snap_core.specs.declared.snap.Snap.{Snap}
 use Rattle.snap_core.specs.declared.number.TypeNo.{TypeNo}
 use Rattle.snap_core.specs.declared.number.ModelNo.{ModelNo}
 use Rattle.pointer_core.specs.Path.{Path}
@@ -11,8 +10,7 @@ use Rattle.pointer_core.specs.declared.refusal.Rule.{Rule}
 use Rattle.pointer_core.specs.declared.refusal.Rule.TheVariants.{Mistyped, Refine}
 use Rattle.type_core.specs.declared.shape.Shape.{Shape}
 use Rattle.type_core.specs.declared.shape.Shape.TheVariants as shape
-use Rattle.type_core.specs.declared.shape.Condition.TheVariants.{Min, Max, MinLength, StartsWith}
-use Rattle.type_core.specs.declared.shape.ModelType.{ModelType}
+use Rattle.type_core.specs.declared.shape.Condition.TheVariants.{Min, Max, StartsWith}
 use Rattle.snap_core.proofs.Views.{view-snap_of}
 use Rattle.type_core.specs.Table.{Table, Catalog}
 use Rattle.type_core.specs.Making.{Outcome, making}

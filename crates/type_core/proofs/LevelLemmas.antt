@@ -6,7 +6,7 @@ use Rattle.type_core.specs.declared.shape.Shape.{Shape}
 use Rattle.type_core.specs.Table.{Table, shape_at, leads_of}
 use Rattle.type_core.specs.Names.{LeadsTo, at_once, by_way}
 use Rattle.type_core.specs.Reaching.{leads_at}
-use Rattle.type_core.specs.Levels.{IsLevel, AreLevels, IsAbove}
+use Rattle.type_core.specs.Levels.{AreLevels, IsAbove}
 use Rattle.type_core.proofs.Loops.{leads_from_shape}
 
 -- what holds of each lead holds of one

@@ -1,5 +1,5 @@
 -- What the members of a union take, one member after another.
-use Rattle.std.proofs.Common.{◌≡◌, ℕ, ℤ, List, [], ◌∷◌, ◌++◌, map, Bool, true, false, ◌||◌, not, ◌&&◌, is_some, Option, Some, None, cond, refl, sym, ap, ◌∙◌}
+use Rattle.std.proofs.Common.{◌≡◌, ℕ, ℤ, List, [], ◌∷◌, ◌++◌, map, Bool, true, false, ◌||◌, is_some, Option, Some, cond, refl, sym, ap, ◌∙◌}
 use Rattle.std.specs.List.{list_any}
 use Rattle.std.specs.Map.{update}
 use Rattle.std.specs.BTreeMap as tree
@@ -15,7 +15,7 @@ use Rattle.snap_core.specs.Value.{Value, null, boolean, integer, text, list, dic
 use Rattle.type_core.specs.declared.scalar_set.ScalarSet.{ScalarSet}
 use Rattle.type_core.specs.declared.taken.Taken.{Taken}
 use Rattle.type_core.specs.ScalarSets.{has}
-use Rattle.type_core.specs.Unions.{Scalars, texts, integers, booleans, these, is_same, is_among, do_meet, none_meet, is_literal, all_differ}
+use Rattle.type_core.specs.Unions.{Scalars, texts, integers, booleans, these, is_same, is_among, do_meet}
 use Rattle.type_core.specs.Taking.{is_taken, AreTaken}
 
 or-swap : (a b c : Bool) → (a || (b || c)) ≡ (b || (a || c))

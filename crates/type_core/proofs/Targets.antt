@@ -1,5 +1,5 @@
 -- In sound types each reference leads to a model with an identifier.
-use Rattle.std.proofs.Common.{◌≡◌, ℕ, ◌<◌, length, Bool, true, false, ◌||◌, Option, Some, None, IfSome, IsSome, refl, sym, ap, ◌∙◌, subst}
+use Rattle.std.proofs.Common.{◌≡◌, ℕ, ◌<◌, length, Bool, true, false, ◌||◌, Option, Some, None, IfSome, IsSome, refl, subst}
 use Rattle.std.specs.Prelude.{IfNone, is_none}
 use Rattle.std.proofs.lemmas.Option.{slice_get_within, get_or_from_slice_get}
 use Rattle.snap_core.specs.declared.number.TypeNo.{TypeNo}
@@ -8,7 +8,7 @@ use Rattle.type_core.specs.declared.shape.Shape.{Shape}
 use Rattle.type_core.specs.declared.shape.Shape.TheVariants.{Model, Reference, Safe}
 use Rattle.type_core.specs.declared.shape.Property.{Property}
 use Rattle.type_core.specs.Table.{Catalog, shape_at, plan_of, IsShapeOf}
-use Rattle.type_core.specs.Identifiers.{identifier_of, identifier_in, is_reference, misleads}
+use Rattle.type_core.specs.Identifiers.{identifier_of, identifier_in, is_reference}
 use Rattle.type_core.specs.Unions.{model_in}
 use Rattle.type_core.specs.Targets.{target_of}
 use Rattle.type_core.specs.Sound.{IsSound}

@@ -1,9 +1,9 @@
 -- Identifiers of models, references to them, and where types stand directly.
-use Rattle.std.specs.Prelude.{◌≡◌, ℕ, List, [], ◌∷◌, ◌++◌, length, map, eqb, Bool, true, false, ◌&&◌, ◌||◌, not, is_none, Option, Some, None, if◌then◌else◌}
+use Rattle.std.specs.Prelude.{ℕ, List, [], ◌∷◌, ◌++◌, map, eqb, Bool, true, false, ◌&&◌, ◌||◌, not, is_none, Option, Some, None, if◌then◌else◌}
 use Rattle.std.specs.Fmt.{signed_decimal}
 use Rattle.std.specs.List.{list_any, filter, find}
 use Rattle.std.specs.Str.{bytes_eq}
-use Rattle.snap_core.specs.Value.{Value, null, integer, text, dict, value_at, Fields}
+use Rattle.snap_core.specs.Value.{Value, integer, text, dict, value_at, Fields}
 use Rattle.snap_core.specs.declared.ident.Ident.{Ident}
 use Rattle.snap_core.specs.declared.ident.Ident.TheVariants as ident
 use Rattle.snap_core.specs.declared.number.TypeNo.{TypeNo}

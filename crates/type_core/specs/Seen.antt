@@ -1,7 +1,5 @@
 -- Identifiers that were met, as the definitions see them.
 use Rattle.std.specs.String.{string_bytes}
-use Rattle.snap_core.specs.declared.number.ModelNo.{ModelNo}
-use Rattle.snap_core.specs.declared.ident.Ident.{Ident}
 use Rattle.snap_core.specs.declared.ident.Ident.TheVariants as ident
 use Rattle.type_core.specs.declared.seen.Key.{Key}
 use Rattle.type_core.specs.declared.seen.Key.TheVariants as key

@@ -3,7 +3,7 @@ use Rattle.std.proofs.lemmas.Option.{slice_get-get_or}
 use Rattle.pointer_core.specs.Path.{Path}
 use Rattle.snap_core.specs.declared.snap.Snap.{the_lemmas}
 use Rattle.snap_core.specs.Value.{IsPlain}
-use Rattle.snap_core.specs.View.{view, items_view, fields_view}
+use Rattle.snap_core.specs.View.{view, fields_view}
 use Rattle.snap_core.proofs.Keys.{AreKeyed-ascending}
 use Rattle.type_core.specs.Doubled.{finder_of, keyed_finders_of, found_under}
 use Rattle.type_core.specs.Finding.{Finds}

@@ -1,4 +1,4 @@
-use Rattle.std.proofs.Common.{◌≡◌, Bool, true, false, IsTrue, ◌↔◌, refl, sym, ◌∙◌}
+use Rattle.std.proofs.Common.{◌≡◌, Bool, false, IsTrue, ◌↔◌, refl, sym, ◌∙◌}
 use Rattle.type_core.proofs.Drafts.{first_name, first_identifier, first_target, first_union, IsFaultless-type}
 use Rattle.type_core.proofs.faults.check_type.Goals as goal
 

@@ -1,4 +1,4 @@
-use Rattle.std.proofs.Common.{◌≡◌, List, Bool, length, ap, ◌∙◌}
+use Rattle.std.proofs.Common.{length, ap, ◌∙◌}
 use Rattle.type_core.specs.Table.{Table}
 use Rattle.type_core.specs.Identifiers.{property_types}
 use Rattle.type_core.specs.Marks.{AreMarks}

@@ -1,4 +1,4 @@
-use Rattle.std.proofs.Common.{◌≡◌, List, map, Bool, true, false, Option, subst}
+use Rattle.std.proofs.Common.{◌≡◌, map, Bool, true, false, Option, subst}
 use Rattle.snap_core.specs.Value.{Value}
 use Rattle.snap_core.specs.declared.number.TypeNo.{TypeNo}
 use Rattle.snap_core.specs.declared.number.ModelNo.{ModelNo}

@@ -1,5 +1,5 @@
 use Rattle.std.proofs.Common.{◌≡◌, ℕ, List, [], ◌∷◌, ◌++◌, ◌+◌, map, take, get_or, subst, sym, ap, ◌∙◌}
-use Rattle.std.proofs.lemmas.List.{take_more, take_all}
+use Rattle.std.proofs.lemmas.List.{take_more}
 use Rattle.snap_core.specs.Value.{Value, text}
 use Rattle.type_core.specs.Unions.{these}
 use Rattle.type_core.specs.Taking.{AreTaken}

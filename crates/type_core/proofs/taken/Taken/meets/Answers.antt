@@ -1,4 +1,4 @@
-use Rattle.std.proofs.Common.{[], ◌∷◌, ◌∙◌, map}
+use Rattle.std.proofs.Common.{[], ◌∙◌, map}
 use Rattle.snap_core.specs.Value.{null, text}
 use Rattle.snap_core.specs.View.{view}
 use Rattle.type_core.proofs.TakenLemmas.{meets-one, meets-these}
