@@ -90,20 +90,20 @@ found-step types all rest k v old new keyed next found = record {
   history = seen-step (codes "history") k v all rest (old.history ≡ 50) (history_in (value_at (codes "history") all) ≡ pos old.history)
       (new.history ≡ 50) (history_in (value_at (codes "history") all) ≡ pos new.history) keyed found.history
       (λ e. let kept : new.history ≡ old.history = at (bytes_eq k (codes "history")) false (history_in (Some v) ≡ pos new.history) (new.history ≡ old.history) e next.history in
-          ((λ h. kept ∙ h), (λ h. h ∙ ap pos (sym kept))))
+      ((λ h. kept ∙ h), (λ h. h ∙ ap pos (sym kept))))
       (λ e h. ap history_in h ∙ at (bytes_eq k (codes "history")) true (history_in (Some v) ≡ pos new.history) (new.history ≡ old.history) e next.history);
   root = seen-step (codes "root") k v all rest (Unit {0}) ((w : Value) → value_at (codes "root") all ≡ Some w → IsNamed types w old)
       (Unit {0}) ((w : Value) → value_at (codes "root") all ≡ Some w → IsNamed types w new) keyed found.root
       (λ e. let kept : new.root ≡ old.root = at (bytes_eq k (codes "root")) false (IsNamed types v new) (new.root ≡ old.root) e next.root in
-          ((λ h. tt), (λ h w is. let named = h w is in (named.0, named.1, kept ∙ named.2))))
+      ((λ h. tt), (λ h w is. let named = h w is in (named.0, named.1, kept ∙ named.2))))
       (λ e h w is. let P : Value → Type 0 = λ x. IsNamed types x new in
-          subst P (same_value v w (value_at (codes "root") all) h is) (at (bytes_eq k (codes "root")) true (IsNamed types v new) (new.root ≡ old.root) e next.root));
+      subst P (same_value v w (value_at (codes "root") all) h is) (at (bytes_eq k (codes "root")) true (IsNamed types v new) (new.root ≡ old.root) e next.root));
   typed = seen-step (codes "types") k v all rest (Unit {0}) ((w : Value) → value_at (codes "types") all ≡ Some w → IsTyped w old)
       (Unit {0}) ((w : Value) → value_at (codes "types") all ≡ Some w → IsTyped w new) keyed found.typed
       (λ e. let kept : new.types ≡ old.types = at (bytes_eq k (codes "types")) false (IsTyped v new) (new.types ≡ old.types) e next.typed in
-          ((λ h. tt), (λ h w is. kept ∙ h w is)))
+      ((λ h. tt), (λ h w is. kept ∙ h w is)))
       (λ e h w is. let P : Value → Type 0 = λ x. IsTyped x new in
-          subst P (same_value v w (value_at (codes "types") all) h is) (at (bytes_eq k (codes "types")) true (IsTyped v new) (new.types ≡ old.types) e next.typed));
+      subst P (same_value v w (value_at (codes "types") all) h is) (at (bytes_eq k (codes "types")) true (IsTyped v new) (new.types ≡ old.types) e next.typed));
 }
 
 -- one field more

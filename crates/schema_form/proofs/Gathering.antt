@@ -125,7 +125,7 @@ module _ (f : SchemaForm) (types : Fields) (known : (s : List ℕ) (e : EntryNo)
       let P : ℕ → Type 0 = HasProperty (slice_get f.models m.0) in
       let own : i + 0 ≡ i = omega arith in
       let further = properties-good m (i + 1) ms (n + length first) parts.1 ordered.2
-          (λ j within. let next : i + suc j ≡ i + 1 + j = omega arith in subst P next (has (suc j) (omega (arith, within)))) (omega (arith, ends, long)) in (
+      (λ j within. let next : i + suc j ≡ i + 1 + j = omega arith in subst P next (has (suc j) (omega (arith, within)))) (omega (arith, ends, long)) in (
         AllFrom-append (IsGood f types known) n (n + length first) first rest refl
             (fine.good n at (subst P own (has 0 (omega arith))) (omega (arith, ends, long))) further.0,
         All-cons (λ (p : Property). p.of.0 < length f.expressions) (record { name = k; of = type_no n }) (properties_of types m (i + 1) ms (n + length first))
@@ -206,9 +206,9 @@ module _ (f : SchemaForm) (types : Fields) (known : (s : List ℕ) (e : EntryNo)
       let there : slice_get f.models (length g.models) ≡ Some model = get-behind g.models grows.models.0 f.models model grows.models.1 in
       let count : length model.properties ≡ length (keys_of ps) = count-properties types m 0 ps (n + 1) in
       let has : (j : ℕ) → j < length (keys_of ps) → HasProperty (slice_get f.models m.0) (0 + j) = λ j within.
-          let P : Option ModelForm → Type 0 = λ o. HasProperty o (0 + j) in
-          let inside : 0 + j < length model.properties = omega (arith, within, count) in
-          subst P (sym there) inside in
+      let P : Option ModelForm → Type 0 = λ o. HasProperty o (0 + j) in
+      let inside : 0 + j < length model.properties = omega (arith, within, count) in
+      subst P (sym there) inside in
       let properties = properties-good m 0 ps (n + 1) none ordered has (omega (arith, long, added)) in
       let Q : List (List ℕ) → Type 0 = AreAscending in record {
         good = AllFrom-append (IsGood f types known) 0 n g.expressions (own ∷ xs) (omega arith) so_far.good

@@ -77,14 +77,14 @@ module _ (types : Fields) (m : ModelNo) (fs : List Field) (i : ℕ) (f : Field) 
       properties_laid types m i (fields_view (drop i fs)) n ≡ a ++ properties_laid types m (i + 1) (fields_view (drop (i + 1) fs)) (n + length a)
   properties-laid n =
       let P : List ℕ × Value → Type 0 = λ e. properties_laid types m i (member e.0 e.1 (fields_view (drop (i + 1) fs))) n
-          ≡ type_laid types (view f.value) n (place.Property m i) ++ properties_laid types m (i + 1) (fields_view (drop (i + 1) fs)) (n + length (type_laid types (view f.value) n (place.Property m i))) in
+      ≡ type_laid types (view f.value) n (place.Property m i) ++ properties_laid types m (i + 1) (fields_view (drop (i + 1) fs)) (n + length (type_laid types (view f.value) n (place.Property m i))) in
       ap (λ gs. properties_laid types m i (fields_view gs) n) ahead ∙ subst P (sym (entry-fields f)) refl
 
   pub properties-of : (n : ℕ) → let a = type_laid types (view f.value) n (place.Property m i) in
       properties_of types m i (fields_view (drop i fs)) n ≡ record { name = f.key; of = type_no n } ∷ properties_of types m (i + 1) (fields_view (drop (i + 1) fs)) (n + length a)
   properties-of n =
       let P : List ℕ × Value → Type 0 = λ e. properties_of types m i (member e.0 e.1 (fields_view (drop (i + 1) fs))) n
-          ≡ record { name = f.key; of = type_no n } ∷ properties_of types m (i + 1) (fields_view (drop (i + 1) fs)) (n + length (type_laid types (view f.value) n (place.Property m i))) in
+      ≡ record { name = f.key; of = type_no n } ∷ properties_of types m (i + 1) (fields_view (drop (i + 1) fs)) (n + length (type_laid types (view f.value) n (place.Property m i))) in
       ap (λ gs. properties_of types m i (fields_view gs) n) ahead ∙ subst P (sym (entry-fields f)) refl
 
 pub properties_laid-none : (types : Fields) (m : ModelNo) (n : ℕ) (fs : List Field) (i : ℕ) → length fs ≤ i → properties_laid types m i (fields_view (drop i fs)) n ≡ []

@@ -12,8 +12,6 @@ use Rattle.snap_core.specs.Value.{Value, null, boolean, integer, text, list, dic
 use Rattle.pointer_core.specs.declared.schema_rule.SchemaRule.TheVariants.{Shape, Twice}
 use Rattle.snap_core.specs.declared.snap.Snap.{Snap}
 use Rattle.snap_core.specs.View.{view, items_view}
-
-
 use Rattle.schema_form.specs.Faults.{here, unless, under, is_among, texts_faults}
 use Rattle.schema_form.specs.Layout.{texts_in}
 use Rattle.schema_form.specs.Texts.{text_cmp, AreTexts}

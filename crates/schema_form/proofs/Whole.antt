@@ -149,7 +149,7 @@ module _ (f : SchemaForm) (types : Fields) (known : (s : List ℕ) (e : EntryNo)
       → IsFine (λ n at. record { place = at; kind = kind.Refinement (type_no (n + 1)) (conditions_of (base_in types t) cs) } ∷ said (place.Part (type_no n) step.Refined) (option_map kind.Word (word_in types t)))
   fine-refined t cs none =
       let first : base_faults types t ≡ [] = under_none (codes "0") (base_faults types t)
-          (append_none (under (codes "0") (base_faults types t)) (under (codes "1") (conditions_faults (base_in types t) cs)) none).0 in
+      (append_none (under (codes "0") (base_faults types t)) (under (codes "1") (conditions_faults (base_in types t) cs)) none).0 in
       let w = base-known t first in
       around (λ n. kind.Refinement (type_no (n + 1)) (conditions_of (base_in types t) cs)) (λ n at. said at (option_map kind.Word (word_in types t)))
       (λ n. place.Part (type_no n) step.Refined)

@@ -141,12 +141,7 @@ fn read_parts(alloc: Global, parts: &[Field], types: &[Field]) -> Result<Found, 
 }
 
 /// Reads a part of the file.
-fn read_part(
-    alloc: Global,
-    types: &[Field],
-    part: &Field,
-    found: Found,
-) -> Result<Found, FormError>
+fn read_part(alloc: Global, types: &[Field], part: &Field, found: Found) -> Result<Found, FormError>
     requires keyed { AreKeyed (fields_view types.now) }
     requires ordered { IsOrdered (view part.now.value) }
     ensures finds { Finds result

@@ -58,11 +58,7 @@ pub fn read_leaf(
     }
 }
 
-fn add_literal(
-    value: &Snap,
-    place: Place,
-    expressions: &mut Expressions,
-) -> Result<(), FormError>
+fn add_literal(value: &Snap, place: Place, expressions: &mut Expressions) -> Result<(), FormError>
     ensures finds { Finds result (faults.literal_faults (view value.now)) }
     ensures laid { let literal : Kind = kind.Literal (snap_of (view value.now)) in
         OnOk result (expressions.new ≡ expressions.old ++ record { place = place; kind = literal } ∷ []) }

@@ -162,9 +162,11 @@ answered_given laws r types body given status answered =
     let ends : BothTold (EndsWith answered.types status) (Some given.links) r.door_after.links =
     subst (λ o. BothTold (EndsWith answered.types status) o r.door_after.links) given.links_told answered.ends in
     let gets : (status ≡ 0) × Replied (reading_reply answered.types (reading body)) (Some given.links) r.door_after.links =
-    ends_replied laws answered.types given.links r.door_after.links given.input body given.rest status given.next given.arrives ends in
-    (gets.0, subst (λ o. Replied (reading_reply types (reading body)) o r.door_after.links) (sym given.links_told)
-    (subst (λ reply. Replied reply (Some given.links) r.door_after.links) replies gets.1))
+    ends_replied laws answered.types given.links r.door_after.links given.input body given.rest status given.next given.arrives ends in (
+      gets.0,
+      subst (λ o. Replied (reading_reply types (reading body)) o r.door_after.links) (sym given.links_told)
+          (subst (λ reply. Replied reply (Some given.links) r.door_after.links) replies gets.1),
+    )
 
 -- the exits of a run by a schema file that is given, with no fault of the world's: none of them refuses the file
 module _ (r : Run) (command : Command) (named : r.command ≡ Some command) (file : List ℕ) (given : FileIsGiven r.world_before.files (name_in command) file)

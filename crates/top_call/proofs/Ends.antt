@@ -47,9 +47,12 @@ frame : (c : Option Command) (exit : Exit) (old new : WorldState) → AsksForSch
 frame None exit old new same =
     (ap (λ (w : WorldState). w.files) same, ap (λ (w : WorldState). w.out) same, ap (λ (w : WorldState). w.err) same, omega (arith, ap (λ (w : WorldState). w.fault_count) same))
 frame (Some c) exit old new (inl asks) = (asks.files, asks.out, asks.err, asks.count)
-frame (Some c) exit old new (inr early) =
-    (ap (λ (w : WorldState). w.files) early.1, ap (λ (w : WorldState). w.out) early.1, ap (λ (w : WorldState). w.err) early.1,
-    omega (arith, ap (λ (w : WorldState). w.fault_count) early.1))
+frame (Some c) exit old new (inr early) = (
+  ap (λ (w : WorldState). w.files) early.1,
+  ap (λ (w : WorldState). w.out) early.1,
+  ap (λ (w : WorldState). w.err) early.1,
+  omega (arith, ap (λ (w : WorldState). w.fault_count) early.1),
+)
 
 no-other : (c : Option Command) (exit : Exit) (old new : WorldState) (asked : List (List ℕ)) → AsksForSchema c exit old new → asked ≡ new.asked
     → AsksForNoOther c old.asked asked

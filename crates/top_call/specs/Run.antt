@@ -156,7 +156,7 @@ pub record RefusesAt (r : Run) : Type 0 where
   pub rule : SchemaRule
   pub file : IfSchemaFile r (IsFaulty pointer rule)
   pub told :
-    Gets (codes "schema " ++ pointer ++ codes " " ++ schema_rule_name rule ++ codes "\n") r.world_before.err r.world_after.err
+      Gets (codes "schema " ++ pointer ++ codes " " ++ schema_rule_name rule ++ codes "\n") r.world_before.err r.world_after.err
 
 -- the file is no JSON, or has a first fault, and the message on standard error says so
 abbrev pub Refuses : Run → Type 0

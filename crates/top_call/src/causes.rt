@@ -49,8 +49,7 @@ pub fn statuses_have_causes()
     ensures told { (r : Run) (status : ℕ) → Ends r status → ¬ (status ≡ 10)
         → (exit : declared.Exit)
         × Tells (record { command = r.command; exit = exit; status = status }) r.world_before r.world_after }
-{
-}
+{}
 
 /// What comes of a run in which the outside fails nowhere.
 pub fn answers_what_is_given()

@@ -28,12 +28,12 @@ pub fn host<W: World, D: Door>(alloc: Global, words: &[Txt], world: &mut W, door
     // that exit says. Then the exit is told and gives its status, or there was something to tell and a
     // writing failed, and the status is 10. The laws of `causes` say what follows.
     ensures ends { runs.Ends (record {
-        command = command_of words.now;
-        world_before = W.state world.old;
-        world_after = W.state world.new;
-        door_before = D.state door.old;
-        door_after = D.state door.new;
-      }) result }
+      command = command_of words.now;
+      world_before = W.state world.old;
+      world_after = W.state world.new;
+      door_before = D.state door.old;
+      door_after = D.state door.new;
+    }) result }
     ensures grammar { (command : commands.Command)
         → (command_of words.now ≡ Some command) ↔ (words.now ≡ words_of command) }
     ensures statuses { Contains (0 ∷ 2 ∷ 3 ∷ 4 ∷ 6 ∷ 7 ∷ 9 ∷ 10 ∷ []) result }
@@ -63,19 +63,19 @@ fn run<W: World, D: Door>(
 ) -> Exit
     requires none_open { (D.state door.old).is_open ≡ false }
     ensures causes { runs.Causes (record {
-        command = option_map seen command.entry;
-        world_before = W.state world.old;
-        world_after = W.state world.new;
-        door_before = D.state door.old;
-        door_after = D.state door.new;
-      }) result }
+      command = option_map seen command.entry;
+      world_before = W.state world.old;
+      world_after = W.state world.new;
+      door_before = D.state door.old;
+      door_after = D.state door.new;
+    }) result }
     ensures door { runs.LeavesDoor (record {
-        command = option_map seen command.entry;
-        world_before = W.state world.old;
-        world_after = W.state world.new;
-        door_before = D.state door.old;
-        door_after = D.state door.new;
-      }) result }
+      command = option_map seen command.entry;
+      world_before = W.state world.old;
+      world_after = W.state world.new;
+      door_before = D.state door.old;
+      door_after = D.state door.new;
+    }) result }
     ensures asks { runs.AsksForSchema (option_map seen command.entry) result
         (W.state world.old) (W.state world.new) }
     ensures untouched { inside.IsEarly result → door.new ≡ door.old }
@@ -94,12 +94,12 @@ fn run<W: World, D: Door>(
 // Checks a schema file.
 fn check<W: World>(alloc: Global, world: &mut W, name: &str) -> Exit
     ensures causes { (door_before : DoorState) → (door_after : DoorState) → runs.Causes (record {
-        command = Some (commands.check name.now);
-        world_before = W.state world.old;
-        world_after = W.state world.new;
-        door_before = door_before;
-        door_after = door_after;
-      }) result }
+      command = Some (commands.check name.now);
+      world_before = W.state world.old;
+      world_after = W.state world.new;
+      door_before = door_before;
+      door_after = door_after;
+    }) result }
     ensures asks { runs.AsksForSchema (Some (commands.check name.now)) result
         (W.state world.old) (W.state world.new) }
     ensures before_door { inside.IsBeforeDoor result }
@@ -114,19 +114,19 @@ fn check<W: World>(alloc: Global, world: &mut W, name: &str) -> Exit
 fn serve_by<W: World, D: Door>(alloc: Global, world: &mut W, name: &str, door: &mut D) -> Exit
     requires none_open { (D.state door.old).is_open ≡ false }
     ensures causes { runs.Causes (record {
-        command = Some (commands.run name.now);
-        world_before = W.state world.old;
-        world_after = W.state world.new;
-        door_before = D.state door.old;
-        door_after = D.state door.new;
-      }) result }
+      command = Some (commands.run name.now);
+      world_before = W.state world.old;
+      world_after = W.state world.new;
+      door_before = D.state door.old;
+      door_after = D.state door.new;
+    }) result }
     ensures door { runs.LeavesDoor (record {
-        command = Some (commands.run name.now);
-        world_before = W.state world.old;
-        world_after = W.state world.new;
-        door_before = D.state door.old;
-        door_after = D.state door.new;
-      }) result }
+      command = Some (commands.run name.now);
+      world_before = W.state world.old;
+      world_after = W.state world.new;
+      door_before = D.state door.old;
+      door_after = D.state door.new;
+    }) result }
     ensures asks { runs.AsksForSchema (Some (commands.run name.now)) result
         (W.state world.old) (W.state world.new) }
     ensures untouched { inside.IsEarly result → door.new ≡ door.old }
