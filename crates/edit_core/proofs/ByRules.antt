@@ -64,13 +64,13 @@ entries-back (entry k x es) = ap (entry k x) (entries-back es)
 unlike : (a b : ℕ) → a < b → (a == b) ≡ false
 unlike a b low = elim (a == b) as (λ t. (t ≡ true → a ≡ b) → t ≡ false) [ true ↦ λ h. absurd (let same : a ≡ b = h refl in omega arith) | false ↦ λ h. refl ] (Decides-eqb a b).0
 
-new-array : (old : Labelled) (next : ℕ) (kind : Kind) (bs : Branches Label) → AreNumbered next old
+pub new-array : (old : Labelled) (next : ℕ) (kind : Kind) (bs : Branches Label) → AreNumbered next old
     → edits_between old (many (record { number = next; kind = kind }) bs) ≡ whole old (many (record { number = next; kind = kind }) bs) ∷ []
 new-array (leaf v) next kind bs numbers = refl
 new-array (keyed l es) next kind bs numbers = refl
 new-array (many l cs) next kind bs numbers = rw (unlike l.number next (low-number next (many l cs) l refl numbers))
 
-new-record : (old : Labelled) (next : ℕ) (kind : Kind) (es : Entries Label) → AreNumbered next old
+pub new-record : (old : Labelled) (next : ℕ) (kind : Kind) (es : Entries Label) → AreNumbered next old
     → edits_between old (keyed (record { number = next; kind = kind }) es) ≡ whole old (keyed (record { number = next; kind = kind }) es) ∷ []
 new-record (leaf v) next kind es numbers = refl
 new-record (many l cs) next kind es numbers = refl

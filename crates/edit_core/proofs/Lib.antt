@@ -25,3 +25,4 @@ pub mod OldItems
 pub mod RuleItems
 pub mod RuleFields
 pub mod ByRules
+pub mod ItemSetting

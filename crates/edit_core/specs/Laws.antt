@@ -12,9 +12,9 @@ use Rattle.edit_core.specs.Typing.{Typing, Rules, seen}
 use Rattle.edit_core.specs.Matching.{first_matching, by_first, same_item}
 use Rattle.edit_core.specs.Template.{template, numbered}
 use Rattle.edit_core.specs.Labelling.{IsSuited, IsLabelledBy}
-use Rattle.edit_core.specs.Rules.{patches_by_rules}
+use Rattle.edit_core.specs.Rules.{patches_by_rules, item_patches}
 use Rattle.edit_core.specs.Numbers.{AreNumbered, MatchesOnce, HasNumbers}
-use Rattle.edit_core.specs.Reconciling.{Setting, Written, reconciled}
+use Rattle.edit_core.specs.Reconciling.{Setting, Written, reconciled, item_set}
 
 -- an edit that leads from a labelled snapshot leads to one alone, which is what the edit makes of it
 pub record EditsLeadToOne : Type 0 where
@@ -108,3 +108,11 @@ abbrev pub ReconcilingFollowsTheRules : Type 0
 ReconcilingFollowsTheRules =
     (typing : Typing) (s : Setting) → CanBeSet typing s
     → map patch_of (reconciled (by_first typing) s).edits ≡ patches_by_rules typing s.type (bare s.old) s.new
+
+-- an item that is set alone: its edits lead to the new value, and are, without labels, the patches of its rule
+pub record SetsOneItem (typing : Typing) (s : Setting) : Type 0 where
+  pub leads : LeadsToTheNew s (item_set (by_first typing) s)
+  pub patches : CanBeSet typing s → map patch_of (item_set (by_first typing) s).edits ≡ item_patches typing s.type (bare s.old) s.new
+
+abbrev pub ItemsAreSetAlone : Type 0
+ItemsAreSetAlone = (typing : Typing) (s : Setting) → SetsOneItem typing s

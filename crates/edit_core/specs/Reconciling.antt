@@ -1,10 +1,11 @@
 -- Reconciling: which labels a value has that is set, and which edits lead to it.
-use Rattle.std.specs.Prelude.{ℕ, ◌+◌, List, Some}
+use Rattle.std.specs.Prelude.{ℕ, ◌+◌, List, Some, None, if◌then◌else◌}
 use Rattle.snap_core.specs.Value.{Value}
 use Rattle.edit_core.specs.Labelled.{Labelled}
 use Rattle.edit_core.specs.Edit.{Edit}
 use Rattle.edit_core.specs.Between.{edits_between}
-use Rattle.edit_core.specs.Typing.{Rules}
+use Rattle.edit_core.specs.Typing.{Rules, seen}
+use Rattle.edit_core.specs.Matching.{same_item}
 use Rattle.edit_core.specs.Template.{Template, template, numbered, new_count}
 
 -- a value that is set in the place of a labelled one, its type, and the next number
@@ -25,3 +26,8 @@ written_as next old new = record { value = numbered next new; edits = edits_betw
 
 abbrev pub reconciled : Rules → Setting → Written
 reconciled rules s = written_as s.next s.old (template rules s.type (Some s.old) s.new)
+
+-- An item that is set alone: reconciled where it is the same as the old one, and otherwise another one in its place.
+abbrev pub item_set : Rules → Setting → Written
+item_set rules s =
+    if same_item rules.typing s.type (seen s.old) s.new then reconciled rules s else written_as s.next s.old (template rules s.type None s.new)

@@ -162,3 +162,7 @@ abbrev mutual
   pub new_fields : Typing → Fields → List (List ℕ × NewPart)
   new_fields typing no_members = []
   new_fields typing (member k v ms) = (k, record { value = v; patches = λ t old. patches_by_rules typing t old v }) ∷ new_fields typing ms
+
+-- the patches of an item that is set alone: by the rules where it is the same as the old one, otherwise one replacement
+abbrev pub item_patches : Typing → ℕ → Value → Value → List Patch
+item_patches typing t old new = if same_values typing t old new then patches_by_rules typing t old new else replaced [] old new ∷ []

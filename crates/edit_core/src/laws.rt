@@ -1,4 +1,4 @@
-ghost use Rattle.edit_core.specs.Laws.{EditsLeadToOne, EditsAreTakenBack, EditsLeadAcross, ReconcilingLeadsToTheNew, PatchesLeadToTheNew, NumbersDiffer, FirstMatchesOnce, EqualChangesNothing, LabelsFollowTypes, ReconcilingFollowsTheRules, MatchedItemsStay};
+ghost use Rattle.edit_core.specs.Laws.{EditsLeadToOne, EditsAreTakenBack, EditsLeadAcross, ReconcilingLeadsToTheNew, PatchesLeadToTheNew, NumbersDiffer, FirstMatchesOnce, EqualChangesNothing, LabelsFollowTypes, ReconcilingFollowsTheRules, MatchedItemsStay, ItemsAreSetAlone};
 
 /// An edit that leads from a labelled snapshot leads to one alone.
 pub fn edits_lead_to_one()
@@ -53,4 +53,9 @@ pub fn reconciling_follows_the_rules()
 /// An old item that is the same as a new one keeps its node where it is matched with it.
 pub fn matched_items_stay()
     ensures { MatchedItemsStay }
+{}
+
+/// An item that is set alone is reconciled where it is the same as the old one, and otherwise replaced.
+pub fn items_are_set_alone()
+    ensures { ItemsAreSetAlone }
 {}

@@ -19,6 +19,7 @@ mod laws;
 pub use kind::Kind;
 pub use laws::{
     edits_are_taken_back, edits_lead_across, edits_lead_to_one, equal_changes_nothing,
-    first_matches_once, labels_follow_types, matched_items_stay, numbers_differ,
-    patches_lead_to_the_new, reconciling_follows_the_rules, reconciling_leads_to_the_new,
+    first_matches_once, items_are_set_alone, labels_follow_types, matched_items_stay,
+    numbers_differ, patches_lead_to_the_new, reconciling_follows_the_rules,
+    reconciling_leads_to_the_new,
 };
