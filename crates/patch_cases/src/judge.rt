@@ -2,7 +2,8 @@
 ghost use Rattle.std.specs.Prelude.{All};
 ghost use Rattle.snap_core.specs.Value.{IsPlain};
 ghost use Rattle.snap_core.specs.View.{view};
-ghost use Rattle.patch_core.specs.Application.{HasValue, written};
+ghost use Rattle.patch_core.specs.Application.{HasValue};
+ghost use Rattle.patch_core.specs.Printing.{HasPlainValues};
 
 use patch_core::{PatchError, Patches, apply, print_patches, read_patches};
 use snap_core::Snap;
@@ -127,7 +128,7 @@ fn change(alloc: Global, target: &mut Snap, list: &Snap) -> Result<(), Refusal>
 fn apply_all(alloc: Global, target: &mut Snap, patches: &Patches) -> Result<(), PatchError>
     requires target { IsPlain (view target.old) }
     requires values { All HasValue patches.now }
-    requires plain { All (λ p. IsPlain (written p)) patches.now }
+    requires plain { All HasPlainValues patches.now }
     ensures { IsPlain (view target.new) }
 {
     for patch in patches.as_slice() {

@@ -1,6 +1,6 @@
 -- What is found of a file, part by part: its keys stand once each.
-use Rattle.std.proofs.Common.{◌≡◌, ◌≤◌, ℕ, zero, suc, ◌+◌, ◌<◌, pos, List, [], ◌∷◌, length, get_or, drop, Bool, true, false, is_some, Option, Some, None, Result, Ok, Err, codes, if◌then◌else◌, inl, inr, refl, sym, ◌∙◌, ap, subst, drop-cons, add-one}
-use Rattle.std.specs.Prelude.{◌⊎◌, ◌&&◌, MatchBool}
+use Rattle.std.proofs.Common.{◌≡◌, ◌≤◌, ℕ, zero, suc, ◌+◌, ◌<◌, pos, List, [], ◌∷◌, ◌++◌, length, get_or, drop, Bool, true, false, is_some, Option, Some, None, Result, Ok, Err, codes, if◌then◌else◌, inl, inr, refl, sym, ◌∙◌, ap, subst, drop-cons, add-one}
+use Rattle.std.specs.Prelude.{◌⊎◌, ◌&&◌, MatchBool, IfErr}
 use Rattle.std.specs.declared.cmp.Ordering.TheVariants.{Less}
 use Rattle.std.specs.Cmp.Lexicographic.{slice_cmp}
 use Rattle.std.specs.Ordering.{nat_cmp, is_eq}
@@ -9,17 +9,23 @@ use Rattle.std.proofs.lemmas.Cmp.{nat_list_cmp_total}
 use Rattle.std.proofs.lemmas.List.{drop_all}
 use Rattle.std.proofs.lemmas.Map.Text.{is_eq-slice_cmp}
 use Rattle.std.proofs.lemmas.Slice.Eq.{bytes_eq-Decides}
-use Rattle.snap_core.specs.Value.{Value, dict, no_members, member, value_at, ComesBefore, AreKeyed, keys_of, Fields}
+use Rattle.snap_core.specs.Value.{Value, null, boolean, integer, text, list, dict, no_members, member, value_at, ComesBefore, AreKeyed, keys_of, Fields}
+use Rattle.snap_core.specs.declared.snap.Snap.{Snap}
+use Rattle.snap_core.specs.declared.snap.Snap
 use Rattle.snap_core.specs.declared.snap.Field.{Field}
+use Rattle.snap_core.specs.Unview.{snap_of, entries_of}
+use Rattle.pointer_core.specs.declared.schema_rule.SchemaRule.TheVariants.{Shape}
 use Rattle.snap_core.specs.View.{view, fields_view}
-use Rattle.snap_core.proofs.Views.{entry-fields}
+use Rattle.snap_core.proofs.Views.{entry-fields, snap_of-view}
 use Rattle.schema_form.specs.declared.form.EntryNo.{EntryNo}
 use Rattle.schema_form.specs.declared.fault.FormError.{FormError}
 use Rattle.schema_form.specs.declared.form.SchemaForm.{SchemaForm}
 use Rattle.schema_form.specs.declared.entries.Gathered.{Gathered}
 use Rattle.schema_form.specs.declared.file.Found.{Found}
 use Rattle.schema_form.specs.Names.{has_key}
-use Rattle.schema_form.specs.Faults.{entries, entries_in, types_of}
+use Rattle.schema_form.specs.Faults.{here, unless, member_faults, part_faults, file_faults, entries, entries_in, types_of}
+use Rattle.schema_form.specs.declared.fault.Fault.{Fault}
+use Rattle.schema_form.specs.Outcome.{Finds}
 use Rattle.schema_form.specs.Layout.{gathered}
 use Rattle.schema_form.specs.Form.{history_in, root_in, IsForm}
 use Rattle.schema_form.specs.Parts.{IsNamed, IsTyped, IsNext, IsFound, IsMadeOf}
@@ -127,12 +133,12 @@ found-all types all found before = record {
   root : Seen (codes "root") all no_members (Unit {0}) ((v : Value) → value_at (codes "root") all ≡ Some v → IsNamed types v found)
       → (v : Value) → value_at (codes "root") all ≡ Some v → IsNamed types v found
   root (inl s) v is = let no : None ≡ Some v = s.0 ∙ is in absurd cc
-  root (inr s) = s.1
+  root (inr s) v is = s.1 v is
 
   typed : Seen (codes "types") all no_members (Unit {0}) ((v : Value) → value_at (codes "types") all ≡ Some v → IsTyped v found)
       → (v : Value) → value_at (codes "types") all ≡ Some v → IsTyped v found
   typed (inl s) v is = let no : None ≡ Some v = s.0 ∙ is in absurd cc
-  typed (inr s) = s.1
+  typed (inr s) v is = s.1 v is
 
 pub found-end : (types : Fields) (fs : List Field) (i : ℕ) (found : Found) → length fs ≤ i → IsFoundBefore types (fields_view fs) (fields_view (drop i fs)) found
     → IsFound types (fields_view fs) found
@@ -149,14 +155,18 @@ and-both true c h = (refl, h)
 and-both false c h = absurd cc
 
 -- a file with all parts has a root and types
-pub has-root : (ms : Fields) → (has_key (codes "host") ms && has_key (codes "root") ms && has_key (codes "types") ms) ≡ true → (v : Value) × (value_at (codes "root") ms ≡ Some v)
-has-root ms h = some-of (value_at (codes "root") ms) (and-both (has_key (codes "root") ms) (has_key (codes "types") ms) (and-both (has_key (codes "host") ms) _ h).1).0
+pub has-root : (ms : Fields) → (has_key (codes "host") ms && (has_key (codes "root") ms && has_key (codes "types") ms)) ≡ true → (v : Value) × (value_at (codes "root") ms ≡ Some v)
+has-root ms h =
+    let both = and-both (has_key (codes "host") ms) (has_key (codes "root") ms && has_key (codes "types") ms) h in
+    some-of (value_at (codes "root") ms) (and-both (has_key (codes "root") ms) (has_key (codes "types") ms) both.1).0
 
-pub has-types : (ms : Fields) → (has_key (codes "host") ms && has_key (codes "root") ms && has_key (codes "types") ms) ≡ true → (v : Value) × (value_at (codes "types") ms ≡ Some v)
-has-types ms h = some-of (value_at (codes "types") ms) (and-both (has_key (codes "root") ms) (has_key (codes "types") ms) (and-both (has_key (codes "host") ms) _ h).1).1
+pub has-types : (ms : Fields) → (has_key (codes "host") ms && (has_key (codes "root") ms && has_key (codes "types") ms)) ≡ true → (v : Value) × (value_at (codes "types") ms ≡ Some v)
+has-types ms h =
+    let both = and-both (has_key (codes "host") ms) (has_key (codes "root") ms && has_key (codes "types") ms) h in
+    some-of (value_at (codes "types") ms) (and-both (has_key (codes "root") ms) (has_key (codes "types") ms) both.1).1
 
 module _ (ms : Fields) (found : Found) (is : IsFound (types_of (dict tt ms)) ms found)
-    (all : (has_key (codes "host") ms && has_key (codes "root") ms && has_key (codes "types") ms) ≡ true) where
+    (all : (has_key (codes "host") ms && (has_key (codes "root") ms && has_key (codes "types") ms)) ≡ true) where
   -- what is made of all parts is the form of the file
   pub made-form : (form : SchemaForm) → IsMadeOf found form → IsForm (dict tt ms) form
   made-form form made =
@@ -184,3 +194,26 @@ module _ (ms : Fields) (found : Found) (is : IsFound (types_of (dict tt ms)) ms 
   none-missing e (inr h) =
       let types = has-types ms all in
       let no : Ok (gathered (entries types.0)) ≡ Err e = sym (is.typed types.0 types.1) ∙ h in cc
+
+  -- what is made of all parts has found what the parts have
+  pub made-finds : (r : Result SchemaForm FormError) (faults : List Fault) → faults ≡ [] → IfErr r (λ e. (found.root ≡ Err e) ⊎ (found.types ≡ Err e)) → Finds r faults
+  made-finds (Ok form) faults none h = none
+  made-finds (Err e) faults none h = absurd (none-missing e h)
+
+-- the faults of a file with all parts are those of its parts
+pub file_faults-parts : (ms types : Fields) → (has_key (codes "host") ms && (has_key (codes "root") ms && has_key (codes "types") ms)) ≡ true → types ≡ types_of (dict tt ms)
+    → file_faults (dict tt ms) ≡ member_faults (part_faults types) ms
+file_faults-parts ms types all same =
+    ap (λ b. unless b Shape ++ member_faults (part_faults (types_of (dict tt ms))) ms) all ∙ ap (λ ts. member_faults (part_faults ts) ms) (sym same)
+
+-- a file that is no object
+by_value : (s : Snap) (v : Value) → view s ≡ v → ((fs : List Field) → s ≡ Snap.Dict fs → ⊥) → file_faults v ≡ here Shape
+by_value s null is other = refl
+by_value s (boolean b) is other = refl
+by_value s (integer z) is other = refl
+by_value s (text t) is other = refl
+by_value s (list a ps) is other = refl
+by_value s (dict a ms) is other = absurd (other (entries_of ms) (sym (snap_of-view s) ∙ ap snap_of is))
+
+pub file_faults-other : (s : Snap) → ((fs : List Field) → s ≡ Snap.Dict fs → ⊥) → file_faults (view s) ≡ here Shape
+file_faults-other s other = by_value s (view s) refl other

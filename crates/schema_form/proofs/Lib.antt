@@ -7,6 +7,7 @@ pub mod Shapes
 pub mod Texts
 pub mod Laying
 pub mod Whole
+pub mod Pointing
 pub mod Orders
 pub mod Modelling
 pub mod Gathering

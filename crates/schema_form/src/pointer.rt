@@ -3,10 +3,10 @@ ghost use Rattle.std.specs.Prelude.{◌≡◌, ◌<◌, ◌++◌, length, map, s
 ghost use Rattle.type_core.specs.declared.shape.Property.{Property};
 ghost use Rattle.schema_form.specs.Pointers as pointers;
 
-use crate::form::{Entry, Expressions, Holder, Kind, ModelForm, Place, Step};
+use crate::form::{Entry, EntryNo, Expressions, Holder, Kind, ModelForm, Place, Step};
 use list_core::Parts;
 use pointer_core::Pointer;
-use snap_core::{Name, TypeNo};
+use snap_core::{ModelNo, Name, TypeNo};
 use std::alloc::{AllocError, Global};
 
 /// Type expressions, taken apart.
@@ -45,10 +45,10 @@ pub fn pointer_to(
     let mut path = Pointer::new(alloc);
     let mut at = t;
     loop {
-        match places[at.0] {
-            Place::Entry(entry) => return entry_pointer(path, &entries[entry.0].name),
+        match place_at(places, at) {
+            Place::Entry(entry) => return entry_pointer(path, &entry_at(entries, entry).name),
             Place::Property(model, index) => {
-                return property_pointer(path, &models[model.0], index);
+                return property_pointer(path, model_at(models, model), index);
             }
             Place::Part(whole, step) => {
                 path = lowered(path, step)?;
@@ -56,6 +56,27 @@ pub fn pointer_to(
             }
         }
     }
+}
+
+fn place_at(places: &[Place], at: TypeNo) -> Place
+    requires { at.0 < length places.now }
+    ensures { slice_get places.now at.0 ≡ Some result }
+{
+    places[at.0]
+}
+
+fn entry_at(entries: &[Entry], at: EntryNo) -> &Entry
+    requires { at.0 < length entries.now }
+    ensures { slice_get entries.now at.0 ≡ Some result.now }
+{
+    &entries[at.0]
+}
+
+fn model_at(models: &[ModelForm], at: ModelNo) -> &ModelForm
+    requires { at.0 < length models.now }
+    ensures { slice_get models.now at.0 ≡ Some result.now }
+{
+    &models[at.0]
 }
 
 /// The pointer as it reads from the file, where its root is an entry of the types.

@@ -10,7 +10,7 @@ use Rattle.httparse.specs.Grammar.{RequestHead, print_request}
 use Rattle.http_front.specs.Arrival.{whole, Arrives}
 use Rattle.httparse.specs.Spans.{name_and_value}
 use Rattle.http_front.specs.Head.{is_check, is_plain, number_of, written_length, only_length, values_of, body_length}
-use Rattle.http_front.proofs.LawLemmas.{whole_is_only}
+use Rattle.http_front.specs.Laws.{WholeIsOnly}
 use Rattle.edge_core.specs.World.{WorldState, WorldHasFailed}
 use Rattle.edge_core.specs.Door.{Links, DoorHasFailed, BothTold}
 use Rattle.snap_json.specs.Reading.{reading}
@@ -26,7 +26,13 @@ use Rattle.schema_read.specs.Schema.{IsSchema, Spells}
 use Rattle.top_call.specs.Words.{Command, check, run, name_in}
 use Rattle.top_call.specs.Serving.{most_bytes, Served, AnswersLink, EndsWith}
 use Rattle.top_call.specs.Run.{Run, Files, IfFile, IfSchemaFile, IsTooLong, IsFileOf, IsSchemaOf, IsNoJson, IsFaulty, IsAnswered, Causes, FileIsGiven, SchemaIsGiven, RequestIsGiven, IsReplied, IsRun, IsCheck}
-use Rattle.schema_read.proofs.LawLemmas.{schema_has_no_fault, file_is_one_schema}
+use Rattle.schema_read.specs.Laws.{SchemaHasNoFault, FileIsOneSchema}
+
+-- the laws of the crates below: one whole request is the only answer to its bytes, a schema has no fault, and a file is one schema
+pub record Laws : Type 0 where
+  pub whole_is_only : WholeIsOnly
+  pub schema_has_no_fault : SchemaHasNoFault
+  pub file_is_one_schema : FileIsOneSchema
 
 -- a body's length is at most 262,144
 guarded : (b : Bool) (n m : ℕ) → cond b (Some n) None ≡ Some m → (b ≡ true) × (n ≡ m)
@@ -83,11 +89,11 @@ all_came came left input body e (inr full) arrives =
     absurd (omega (arith, full, whole-le input body arrives, ap length e, length-append came left))
 
 -- the bytes that came are answered as the request that they are
-whole_answered : (types : Catalog) (came written body : List ℕ) (status : ℕ) → Arrives came (whole body []) → AnswersBytes types came written status
+whole_answered : (laws : Laws) (types : Catalog) (came written body : List ℕ) (status : ℕ) → Arrives came (whole body []) → AnswersBytes types came written status
     → (written ≡ reading_reply types (reading body)) × (status ≡ 0)
-whole_answered types [] written body status arrives answers = absurd (some-head arrives.head (body ++ []) arrives.begins.reads.1)
-whole_answered types (b ∷ bytes) written body status arrives answers =
-    let same : answers.0 ≡ whole body [] = whole_is_only (b ∷ bytes) body [] answers.0 arrives answers.1 in
+whole_answered laws types [] written body status arrives answers = absurd (some-head arrives.head (body ++ []) arrives.begins.reads.1)
+whole_answered laws types (b ∷ bytes) written body status arrives answers =
+    let same : answers.0 ≡ whole body [] = laws.whole_is_only (b ∷ bytes) body [] answers.0 arrives answers.1 in
     (answers.2 ∙ ap (written_for types) same, answers.3 ∙ ap status_for same)
 
 -- links of which the next one got a reply
@@ -95,22 +101,22 @@ abbrev pub Replied : List ℕ → Option Links → Option Links → Type 0
 Replied reply before after = (came : List ℕ) × BothTold (Served came [] reply) before after
 
 -- what a request that is given got
-replied : (types : Catalog) (links after : Links) (input body : List ℕ) (rest : List (List ℕ)) (status : ℕ) → links.coming ≡ input ∷ rest
+replied : (laws : Laws) (types : Catalog) (links after : Links) (input body : List ℕ) (rest : List (List ℕ)) (status : ℕ) → links.coming ≡ input ∷ rest
     → Arrives input (whole body []) → AnswersLink types status links after → (status ≡ 0) × Replied (reading_reply types (reading body)) (Some links) (Some after)
-replied types links after input body rest status next arrives answers =
+replied laws types links after input body rest status next arrives answers =
     let inputs : answers.came ++ answers.left ≡ input = (let e : (answers.came ++ answers.left) ∷ after.coming ≡ input ∷ rest = sym answers.served.next ∙ next in cc) in
     let none : answers.left ≡ [] = all_came answers.came answers.left input body inputs answers.all arrives in
     let whole_input : answers.came ≡ input = sym (append-nil answers.came) ∙ ap (λ xs. answers.came ++ xs) (sym none) ∙ inputs in
-    let gets = whole_answered types answers.came answers.written body status (subst (λ xs. Arrives xs (whole body [])) (sym whole_input) arrives) answers.answers in
+    let gets = whole_answered laws types answers.came answers.written body status (subst (λ xs. Arrives xs (whole body [])) (sym whole_input) arrives) answers.answers in
     let served : Served answers.came [] answers.written links after = subst (λ xs. Served answers.came xs answers.written links after) none answers.served in
     (gets.1, (answers.came, subst (λ xs. Served answers.came [] xs links after) gets.0 served))
 
 -- an answer to the link of a request that is given
-ends_replied : (types : Catalog) (links : Links) (after : Option Links) (input body : List ℕ) (rest : List (List ℕ)) (status : ℕ) → links.coming ≡ input ∷ rest
+ends_replied : (laws : Laws) (types : Catalog) (links : Links) (after : Option Links) (input body : List ℕ) (rest : List (List ℕ)) (status : ℕ) → links.coming ≡ input ∷ rest
     → Arrives input (whole body []) → BothTold (EndsWith types status) (Some links) after → (status ≡ 0) × Replied (reading_reply types (reading body)) (Some links) after
-ends_replied types links None input body rest status next arrives ends = absurd ends
-ends_replied types links (Some after) input body rest status next arrives (inl none) = absurd (let e : [] ≡ input ∷ rest = sym none.0.none_left ∙ next in cc)
-ends_replied types links (Some after) input body rest status next arrives (inr answers) = replied types links after input body rest status next arrives answers
+ends_replied laws types links None input body rest status next arrives ends = absurd ends
+ends_replied laws types links (Some after) input body rest status next arrives (inl none) = absurd (let e : [] ≡ input ∷ rest = sym none.0.none_left ∙ next in cc)
+ends_replied laws types links (Some after) input body rest status next arrives (inr answers) = replied laws types links after input body rest status next arrives answers
 
 -- a fact of the file that is given
 of_file : (files : Files) (name file : List ℕ) (P : List ℕ → Type 0) → FileIsGiven files name file → IfFile files name P → P file
@@ -130,10 +136,10 @@ module _ (files : Files) (name file : List ℕ) (given : FileIsGiven files name 
   not-other : IfFile files name IsNoJson → ⊥
   not-other other = some-reading file schema is.spells (of_file files name file IsNoJson given other).unread
 
-  not-faulty : (pointer : List ℕ) (rule : SchemaRule) → IfFile files name (IsFaulty pointer rule) → ⊥
-  not-faulty pointer rule other =
+  not-faulty : (laws : Laws) (pointer : List ℕ) (rule : SchemaRule) → IfFile files name (IsFaulty pointer rule) → ⊥
+  not-faulty laws pointer rule other =
       let faulty = of_file files name file (IsFaulty pointer rule) given other in
-      schema_has_no_fault file schema (record { path = faulty.path; rule = rule }) is.spells faulty.first
+      laws.schema_has_no_fault file schema (record { path = faulty.path; rule = rule }) is.spells faulty.first
 
 -- a fact of the file that a command names
 of_named : (r : Run) (command : Command) (P : List ℕ → Type 0) → r.command ≡ Some command → IfSchemaFile r P
@@ -144,19 +150,19 @@ of_named r command P named fact =
     there
 
 -- what a run by a file that is given got
-answered_given : (r : Run) (types : Catalog) (body : List ℕ) (given : RequestIsGiven r types body) (status : ℕ) → IsAnswered r status
+answered_given : (laws : Laws) (r : Run) (types : Catalog) (body : List ℕ) (given : RequestIsGiven r types body) (status : ℕ) → IsAnswered r status
     → (status ≡ 0) × IsReplied r (reading_reply types (reading body))
-answered_given r types body given status answered =
+answered_given laws r types body given status answered =
     let ours : IsSchemaOf answered.types given.file =
     of_file r.world_before.files given.name given.file (IsSchemaOf answered.types) given.given (of_named r (run given.name) (IsSchemaOf answered.types) given.named answered.schema) in
-    let one : ours.0 ≡ given.schema.0 = file_is_one_schema given.file ours.0 given.schema.0 ours.1.spells given.schema.1.spells in
+    let one : ours.0 ≡ given.schema.0 = laws.file_is_one_schema given.file ours.0 given.schema.0 ours.1.spells given.schema.1.spells in
     let same : answered.types ≡ types = sym ours.2 ∙ ap (λ (schema : Schema). schema.types) one ∙ given.schema.2 in
     let replies : reading_reply answered.types (reading body) ≡ reading_reply types (reading body) =
     ap (λ (types : Catalog). reading_reply types (reading body)) same in
     let ends : BothTold (EndsWith answered.types status) (Some given.links) r.door_after.links =
     subst (λ o. BothTold (EndsWith answered.types status) o r.door_after.links) given.links_told answered.ends in
     let gets : (status ≡ 0) × Replied (reading_reply answered.types (reading body)) (Some given.links) r.door_after.links =
-    ends_replied answered.types given.links r.door_after.links given.input body given.rest status given.next given.arrives ends in
+    ends_replied laws answered.types given.links r.door_after.links given.input body given.rest status given.next given.arrives ends in
     (gets.0, subst (λ o. Replied (reading_reply types (reading body)) o r.door_after.links) (sym given.links_told)
     (subst (λ reply. Replied reply (Some given.links) r.door_after.links) replies gets.1))
 
@@ -175,43 +181,43 @@ module _ (r : Run) (command : Command) (named : r.command ≡ Some command) (fil
   never_other : IfSchemaFile r IsNoJson → ⊥
   never_other other = not-other r.world_before.files (name_in command) file given schema is (taken IsNoJson other)
 
-  never_faulty : (pointer : List ℕ) (rule : SchemaRule) → IfSchemaFile r (IsFaulty pointer rule) → ⊥
-  never_faulty pointer rule faulty = not-faulty r.world_before.files (name_in command) file given schema is pointer rule (taken (IsFaulty pointer rule) faulty)
+  never_faulty : (laws : Laws) (pointer : List ℕ) (rule : SchemaRule) → IfSchemaFile r (IsFaulty pointer rule) → ⊥
+  never_faulty laws pointer rule faulty = not-faulty r.world_before.files (name_in command) file given schema is laws pointer rule (taken (IsFaulty pointer rule) faulty)
 
-check_completes : (r : Run) (exit : Exit) → Causes r exit → SchemaIsGiven r → ¬ (WorldHasFailed r.world_before r.world_after)
+check_completes : (laws : Laws) (r : Run) (exit : Exit) → Causes r exit → SchemaIsGiven r → ¬ (WorldHasFailed r.world_before r.world_after)
     → (exit_code exit ≡ 7) ⊎ (exit_code exit ≡ 0)
-check_completes r Memory cause given world = inl refl
-check_completes r Checked cause given world = inr refl
-check_completes r Usage cause given world = absurd (never_none r (check given.name) given.named given.file given.given given.schema.0 given.schema.1 cause)
-check_completes r Unread cause given world = elim cause.1 [
+check_completes laws r Memory cause given world = inl refl
+check_completes laws r Checked cause given world = inr refl
+check_completes laws r Usage cause given world = absurd (never_none r (check given.name) given.named given.file given.given given.schema.0 given.schema.1 cause)
+check_completes laws r Unread cause given world = elim cause.1 [
   | inl failed ↦ absurd (world failed)
   | inr long ↦ absurd (never_long r (check given.name) given.named given.file given.given given.schema.0 given.schema.1 long)
 ]
-check_completes r Syntax cause given world = absurd (never_other r (check given.name) given.named given.file given.given given.schema.0 given.schema.1 cause)
-check_completes r (Refused pointer rule) cause given world =
-    absurd (never_faulty r (check given.name) given.named given.file given.given given.schema.0 given.schema.1 pointer rule cause)
-check_completes r Done cause given world = absurd (subst IsRun given.named cause.is_run)
-check_completes r Inside cause given world = absurd (subst IsRun given.named cause.is_run)
-check_completes r DoorFailed cause given world = absurd (subst IsRun given.named cause.1.is_run)
+check_completes laws r Syntax cause given world = absurd (never_other r (check given.name) given.named given.file given.given given.schema.0 given.schema.1 cause)
+check_completes laws r (Refused pointer rule) cause given world =
+    absurd (never_faulty r (check given.name) given.named given.file given.given given.schema.0 given.schema.1 laws pointer rule cause)
+check_completes laws r Done cause given world = absurd (subst IsRun given.named cause.is_run)
+check_completes laws r Inside cause given world = absurd (subst IsRun given.named cause.is_run)
+check_completes laws r DoorFailed cause given world = absurd (subst IsRun given.named cause.1.is_run)
 
-run_completes : (r : Run) (exit : Exit) → Causes r exit → (types : Catalog) (body : List ℕ) → RequestIsGiven r types body
+run_completes : (laws : Laws) (r : Run) (exit : Exit) → Causes r exit → (types : Catalog) (body : List ℕ) → RequestIsGiven r types body
     → ¬ (WorldHasFailed r.world_before r.world_after) → ¬ (DoorHasFailed r.door_before r.door_after)
     → (exit_code exit ≡ 7) ⊎ ((exit_code exit ≡ 0) × IsReplied r (reading_reply types (reading body)))
-run_completes r Memory cause types body given world door = inl refl
-run_completes r Checked cause types body given world door = absurd (subst IsCheck given.named cause.0)
-run_completes r Usage cause types body given world door =
+run_completes laws r Memory cause types body given world door = inl refl
+run_completes laws r Checked cause types body given world door = absurd (subst IsCheck given.named cause.0)
+run_completes laws r Usage cause types body given world door =
     absurd (never_none r (run given.name) given.named given.file given.given given.schema.0 given.schema.1 cause)
-run_completes r Unread cause types body given world door = elim cause.1 [
+run_completes laws r Unread cause types body given world door = elim cause.1 [
   | inl failed ↦ absurd (world failed)
   | inr long ↦ absurd (never_long r (run given.name) given.named given.file given.given given.schema.0 given.schema.1 long)
 ]
-run_completes r Syntax cause types body given world door =
+run_completes laws r Syntax cause types body given world door =
     absurd (never_other r (run given.name) given.named given.file given.given given.schema.0 given.schema.1 cause)
-run_completes r (Refused pointer rule) cause types body given world door =
-    absurd (never_faulty r (run given.name) given.named given.file given.given given.schema.0 given.schema.1 pointer rule cause)
-run_completes r Done cause types body given world door = inr (answered_given r types body given 0 cause)
-run_completes r Inside cause types body given world door = absurd (omega (arith, (answered_given r types body given 9 cause).0))
-run_completes r DoorFailed cause types body given world door = absurd (door cause.0)
+run_completes laws r (Refused pointer rule) cause types body given world door =
+    absurd (never_faulty r (run given.name) given.named given.file given.given given.schema.0 given.schema.1 laws pointer rule cause)
+run_completes laws r Done cause types body given world door = inr (answered_given laws r types body given 0 cause)
+run_completes laws r Inside cause types body given world door = absurd (omega (arith, (answered_given laws r types body given 9 cause).0))
+run_completes laws r DoorFailed cause types body given world door = absurd (door cause.0)
 
 -- the same of what a run was given, whatever the world told after it
 given_schema : (r : Run) (told : WorldState) → SchemaIsGiven r → SchemaIsGiven (record r { world_after = told })
@@ -232,13 +238,13 @@ given_request r told types body x = record {
   arrives = x.arrives;
 }
 
-pub checks-all : (r : Run) (told : WorldState) (exit : Exit) → Causes (record r { world_after = told }) exit → SchemaIsGiven r
+pub checks-all : (laws : Laws) (r : Run) (told : WorldState) (exit : Exit) → Causes (record r { world_after = told }) exit → SchemaIsGiven r
     → ¬ (WorldHasFailed r.world_before told) → (exit_code exit ≡ 7) ⊎ (exit_code exit ≡ 0)
-checks-all r told exit cause given world = check_completes (record r { world_after = told }) exit cause (given_schema r told given) world
+checks-all laws r told exit cause given world = check_completes laws (record r { world_after = told }) exit cause (given_schema r told given) world
 
-pub completes : (r : Run) (told : WorldState) (exit : Exit) → Causes (record r { world_after = told }) exit
+pub completes : (laws : Laws) (r : Run) (told : WorldState) (exit : Exit) → Causes (record r { world_after = told }) exit
     → (types : Catalog) (body : List ℕ) → RequestIsGiven r types body
     → ¬ (WorldHasFailed r.world_before told) → ¬ (DoorHasFailed r.door_before r.door_after)
     → (exit_code exit ≡ 7) ⊎ ((exit_code exit ≡ 0) × IsReplied r (reading_reply types (reading body)))
-completes r told exit cause types body given world door =
-    run_completes (record r { world_after = told }) exit cause types body (given_request r told types body given) world door
+completes laws r told exit cause types body given world door =
+    run_completes laws (record r { world_after = told }) exit cause types body (given_request r told types body given) world door

@@ -14,7 +14,7 @@ use Rattle.top_call.specs.Report.{Tells}
 use Rattle.top_call.specs.Run.{Run, Ends, Causes, LeavesDoor, IsRun, IsCheck, IsServed, IsAnswered, IsBroken, IsOutOfMemory, IfSchemaFile, IsTooLong, IsSchemaFile, Refuses, SchemaIsGiven, RequestIsGiven, IsReplied}
 use Rattle.top_call.proofs.Exits.{risen-longer}
 use Rattle.top_call.proofs.Ends.{ends-told, ends-code, ends-rises}
-use Rattle.top_call.proofs.Completes.{checks-all, completes}
+use Rattle.top_call.proofs.Completes.{Laws, checks-all, completes}
 
 -- a run whose world told something else after it
 abbrev pub until : Run → WorldState → Run
@@ -198,19 +198,19 @@ module _ (r : Run) (status : ℕ) (ends : Ends r status) where
       → (exit : Exit) × Tells (record { command = r.command; exit = exit; status = status }) r.world_before r.world_after
   told-law not = (ends.exit, ends-told r status ends not)
 
-  pub checks-law : SchemaIsGiven r → ¬ (WorldHasFailed r.world_before r.world_after) → (status ≡ 7) ⊎ (status ≡ 0)
-  checks-law given world = elim ends.reports [
+  pub checks-law : Laws → SchemaIsGiven r → ¬ (WorldHasFailed r.world_before r.world_after) → (status ≡ 7) ⊎ (status ≡ 0)
+  checks-law laws given world = elim ends.reports [
     | inl tells ↦
         subst (λ n. (n ≡ 7) ⊎ (n ≡ 0)) (sym tells.answers)
-        (checks-all r ends.told ends.exit ends.causes given (λ failed. world (rises-later failed)))
+        (checks-all laws r ends.told ends.exit ends.causes given (λ failed. world (rises-later failed)))
     | inr fails ↦ absurd (world (rises-late fails.failed))
   ]
 
-  pub complete-law : (types : Catalog) (body : List ℕ) → RequestIsGiven r types body → ¬ (WorldHasFailed r.world_before r.world_after)
+  pub complete-law : Laws → (types : Catalog) (body : List ℕ) → RequestIsGiven r types body → ¬ (WorldHasFailed r.world_before r.world_after)
       → ¬ (DoorHasFailed r.door_before r.door_after) → (status ≡ 7) ⊎ ((status ≡ 0) × IsReplied r (reading_reply types (reading body)))
-  complete-law types body given world door = elim ends.reports [
+  complete-law laws types body given world door = elim ends.reports [
     | inl tells ↦
         subst (λ n. (n ≡ 7) ⊎ ((n ≡ 0) × IsReplied r (reading_reply types (reading body)))) (sym tells.answers)
-        (completes r ends.told ends.exit ends.causes types body given (λ failed. world (rises-later failed)) door)
+        (completes laws r ends.told ends.exit ends.causes types body given (λ failed. world (rises-later failed)) door)
     | inr fails ↦ absurd (world (rises-late fails.failed))
   ]

@@ -78,12 +78,12 @@ pub record IsFaulty (pointer : List ℕ) (rule : SchemaRule) (file : List ℕ) :
   pub first : HasFirst file (record { path = path; rule = rule })
 
 -- the command is run, its file is a schema of these types, which have no fault, and so the door's links ended
-pub record IsServed (r : Run) (Ends : Catalog → Links → Links → Type 0) : Type 0 where
+pub record IsServed (r : Run) (Ended : Catalog → Links → Links → Type 0) : Type 0 where
   pub is_run : IsRun r.command
   pub types : Catalog
   pub sound : IsSound types
   pub schema : IfSchemaFile r (IsSchemaOf types)
-  pub ends : BothTold (Ends types) r.door_before.links r.door_after.links
+  pub ends : BothTold (Ended types) r.door_before.links r.door_after.links
 
 -- the next link was answered by the file's types, or there was none, and the status after it is this
 abbrev pub IsAnswered : Run → ℕ → Type 0

@@ -9,6 +9,9 @@ ghost use Rattle.top_call.specs.Link.{reading_reply};
 ghost use Rattle.top_call.specs.Report.{Tells};
 ghost use Rattle.top_call.specs.Run.{Run, Ends, IsRun, IsCheck, IfSchemaFile, IsTooLong, IsSchemaFile, IsAnswered, IsBroken, IsOutOfMemory, Refuses, SchemaIsGiven, RequestIsGiven, IsReplied};
 
+use http_front::whole_is_only;
+use schema_read::{file_is_one_schema, schema_has_no_fault};
+
 /// The cause of each status, and what is told.
 pub fn statuses_have_causes()
     // 2 only where the words are no command, and such words come to nothing else, unless it can't be told.
@@ -61,4 +64,7 @@ pub fn answers_what_is_given()
         → ¬ (DoorHasFailed r.door_before r.door_after)
         → (status ≡ 7) ⊎ ((status ≡ 0) × IsReplied r (reading_reply types (reading body))) }
 {
+    whole_is_only();
+    schema_has_no_fault();
+    file_is_one_schema();
 }

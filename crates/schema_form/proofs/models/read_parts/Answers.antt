@@ -8,7 +8,7 @@ use Rattle.schema_form.specs.Layout.{properties_laid, properties_of}
 use Rattle.schema_form.specs.Names.{has_key}
 use Rattle.schema_form.proofs.Finding.{handed-on, Tells-more, Finds-equal, Finds-ahead, Finds-behind}
 use Rattle.schema_form.proofs.Laying.{OnOk-at}
-use Rattle.schema_form.proofs.Modelling.{model-known, model-other, is-properties, second-part, no-more, one-part}
+use Rattle.schema_form.proofs.Modelling.{has-some, model-known, model-other, is-properties, second-part, no-more, one-part}
 use Rattle.schema_form.proofs.Orders.{keyed_by_order}
 use Rattle.schema_form.proofs.models.read_parts.Goals as goal
 
@@ -50,7 +50,7 @@ returns-then-parts-ne1-clause-finds c =
     let rest = member_faults (model_part_faults types) (fields_view (drop 1 (drop 1 parts))) in
     Finds-equal r (first ++ (second ++ rest)) _
     (model-known types parts f has c.index-parts-0.is same
-    ∙ ap (λ faults. first ++ faults) (second-part types parts f g (keyed_by_order (fields_view parts) c.requires.ordered) (omega arith) c.index-parts-0.is c.index-parts-1.is (is-properties f.key same)))
+    ∙ ap (λ faults. first ++ faults) (second-part types parts f g (keyed_by_order (fields_view parts) c.requires.ordered) (omega (arith, has-some (codes "properties") parts has)) c.index-parts-0.is c.index-parts-1.is (is-properties f.key same)))
     (Finds-behind r first (second ++ rest) (c.in_ok-properties.ensures.finds _ c.read_properties-inner.ensures.finds) (Finds-ahead r second rest (λ e. cc) c.unknown_part-then-parts-ne1.ensures))
 
 pub returns-clause-finds : goal.returns-clause-finds
