@@ -1,6 +1,6 @@
 -- The faults of a table, pass by pass, and a table without one.
 use Rattle.std.proofs.Common.{◌≡◌, ℕ, ◌<◌, List, length, Bool, true, false, IsTrue, Option, Some, None, refl, sym, ap, ◌∙◌, subst, inl, inr, arith}
-use Rattle.std.specs.Prelude.{◌⊎◌, MatchBool, IsSome, IfOk, Result, Ok, Err}
+use Rattle.std.specs.Prelude.{◌≢◌, ◌⊎◌, MatchBool, IsSome, IfOk, Result, Ok, Err}
 use Rattle.std.proofs.lemmas.Option.{slice_get_within}
 use Rattle.snap_core.specs.Value.{Value}
 use Rattle.snap_core.specs.declared.snap.Snap.{Snap}
@@ -56,27 +56,55 @@ union_fault table t ms shape true is = λ fault.
     cc
 union_fault table t ms shape false is = union t ms shape (sym is)
 
--- what holds of each rule that a type can be at fault by
-each_rule : (table : Table) (t : ℕ) (r : SchemaRule) (P : SchemaRule → Type 0) → P rule.Name → P rule.Union → P rule.Default → HasFault table t r → P r
-each_rule table _ _ P a b c (name t back) = a
-each_rule table _ _ P a b c (union t ms shape apart) = b
-each_rule table _ _ P a b c («default» t u d shape none) = c
+-- the rules that a type can be at fault by
+fault_rule : (table : Table) (t : ℕ) (r : SchemaRule) → HasFault table t r → (r ≡ rule.Name) ⊎ (r ≡ rule.Union) ⊎ (r ≡ rule.Default)
+fault_rule table _ _ (name t back) = inl refl
+fault_rule table _ _ (union t ms shape apart) = inr (inl refl)
+fault_rule table _ _ («default» t u d shape none) = inr (inr refl)
+
+-- no type is at fault by another rule
+no_other : (table : Table) (t : ℕ) (r : SchemaRule) → r ≢ rule.Name → r ≢ rule.Union → r ≢ rule.Default → ¬ (HasFault table t r)
+no_other table t r a b c fault = go (fault_rule table t r fault) where
+  go : (r ≡ rule.Name) ⊎ (r ≡ rule.Union) ⊎ (r ≡ rule.Default) → ⊥
+  go (inl e) = a e
+  go (inr (inl e)) = b e
+  go (inr (inr e)) = c e
+
+no_shape : (table : Table) (t : ℕ) → ¬ (HasFault table t rule.Shape)
+no_shape table t = no_other table t rule.Shape (λ e. cc) (λ e. cc) (λ e. cc)
+
+no_twice : (table : Table) (t : ℕ) → ¬ (HasFault table t rule.Twice)
+no_twice table t = no_other table t rule.Twice (λ e. cc) (λ e. cc) (λ e. cc)
+
+no_history : (table : Table) (t : ℕ) → ¬ (HasFault table t rule.History)
+no_history table t = no_other table t rule.History (λ e. cc) (λ e. cc) (λ e. cc)
+
+no_target : (table : Table) (t : ℕ) → ¬ (HasFault table t rule.Target)
+no_target table t = no_other table t rule.Target (λ e. cc) (λ e. cc) (λ e. cc)
 
 -- the first pass at one type
 pub first_name : (table : Table) (t : ℕ) → LeadsTo table t t → IsFirstOf table 0 t rule.Name
 first_name table t back = record { fault = name t back; of_pass = refl; first = λ other pass lower. absurd (omega arith) }
 
 pub first_union : (table : Table) (t : ℕ) → ¬ (LeadsTo table t t) → HasFault table t rule.Union → IsFirstOf table 0 t rule.Union
-first_union table t loopless fault = record {
-  fault = fault;
-  of_pass = refl;
-  first = λ other pass lower h. each_rule table t other (λ r. pass_of r ≡ 0 → order_of r < order_of rule.Union → HasFault table t r → ⊥)
-      (λ p q f. loopless (at_name table t f)) (λ p q f. absurd (omega (arith, q))) (λ p q f. absurd (omega (arith, p))) h pass lower h;
-}
+first_union table t loopless fault = record { fault = fault; of_pass = refl; first = before } where
+  before : (other : SchemaRule) → pass_of other ≡ 0 → order_of other < order_of rule.Union → ¬ (HasFault table t other)
+  before rule.Name pass lower = λ h. loopless (at_name table t h)
+  before rule.Union pass lower = absurd (omega arith)
+  before rule.Default pass lower = absurd (omega arith)
+  before rule.Shape pass lower = no_shape table t
+  before rule.Twice pass lower = no_twice table t
+  before rule.History pass lower = no_history table t
+  before rule.Target pass lower = no_target table t
 
 pub IsFaultless-type : (table : Table) (t : ℕ) → ¬ (LeadsTo table t t) → ¬ (HasFault table t rule.Union) → IsFaultless table 0 t
-IsFaultless-type table t loopless apart r pass h =
-    each_rule table t r (λ r. pass_of r ≡ 0 → HasFault table t r → ⊥) (λ p f. loopless (at_name table t f)) (λ p f. apart f) (λ p f. absurd (omega (arith, p))) h pass h
+IsFaultless-type table t loopless apart rule.Name pass = λ h. loopless (at_name table t h)
+IsFaultless-type table t loopless apart rule.Union pass = apart
+IsFaultless-type table t loopless apart rule.Default pass = absurd (omega arith)
+IsFaultless-type table t loopless apart rule.Shape pass = no_shape table t
+IsFaultless-type table t loopless apart rule.Twice pass = no_twice table t
+IsFaultless-type table t loopless apart rule.History pass = no_history table t
+IsFaultless-type table t loopless apart rule.Target pass = no_target table t
 
 -- the first pass as a whole
 pub first_of_pass : (table : Table) (t : ℕ) (rule : SchemaRule) → ((k : ℕ) → k < t → IsFaultless table 0 k) → IsFirstOf table 0 t rule → IsFirstFault table t rule
@@ -121,26 +149,29 @@ first_missing table defaults faultless made all t missing before = record { faul
       (nothing_made table defaults (λ k back. faultless k rule.Name refl (name k back)) all t missing)
 
   first : (u : ℕ) (other : SchemaRule) → Precedes (u, other) (t, rule.Default) → ¬ (HasFault table u other)
-  first u other earlier h =
-      each_rule table u other (λ r. Precedes (u, r) (t, rule.Default) → HasFault table u r → ⊥) (λ e f. faultless u rule.Name refl f) (λ e f. faultless u rule.Union refl f) later h earlier h
-    where
-      later : Precedes (u, rule.Default) (t, rule.Default) → HasFault table u rule.Default → ⊥
-      later (inl lower) f = absurd (omega arith)
-      later (inr (inl earlier)) f = no_default_fault table defaults made u (before u earlier.1) f
-      later (inr (inr same)) f = absurd (omega (arith, same.2))
+  first u rule.Name earlier = faultless u rule.Name refl
+  first u rule.Union earlier = faultless u rule.Union refl
+  first u rule.Shape earlier = no_shape table u
+  first u rule.Twice earlier = no_twice table u
+  first u rule.History earlier = no_history table u
+  first u rule.Target earlier = no_target table u
+  first u rule.Default (inl lower) = absurd (omega arith)
+  first u rule.Default (inr (inl earlier)) = no_default_fault table defaults made u (before u earlier.1)
+  first u rule.Default (inr (inr same)) = absurd (omega (arith, same.2))
 
 -- types that are sound have no fault
 pub no_fault : (types : Catalog) → IsSound types → (t : ℕ) (rule : SchemaRule) → ¬ (HasFault types.table t rule)
-no_fault types sound t r h =
-    each_rule types.table t r (λ r. HasFault types.table t r → ⊥) (λ f. sound.loopless t (at_name types.table t f)) apart
-    (no_default_fault types.table types.defaults sound.defaults.made t (sound.defaults.known t)) h h
-  where
-    apart : HasFault types.table t rule.Union → ⊥
-    apart fault =
-        let f = at_union types.table t fault in
-        let apart : are_apart types.table f.0 ≡ true = sound.apart t f.0 f.1 in
-        let no : true ≡ false = sym apart ∙ f.2 in
-        cc
+no_fault types sound t rule.Name = λ fault. sound.loopless t (at_name types.table t fault)
+no_fault types sound t rule.Union = λ fault.
+    let f = at_union types.table t fault in
+    let apart : are_apart types.table f.0 ≡ true = sound.apart t f.0 f.1 in
+    let no : true ≡ false = sym apart ∙ f.2 in
+    cc
+no_fault types sound t rule.Shape = no_shape types.table t
+no_fault types sound t rule.Twice = no_twice types.table t
+no_fault types sound t rule.History = no_history types.table t
+no_fault types sound t rule.Target = no_target types.table t
+no_fault types sound t rule.Default = no_default_fault types.table types.defaults sound.defaults.made t (sound.defaults.known t)
 
 told_apart : (table : Table) (t : ℕ) (ms : List TypeNo) → IsFaultless table 0 t → shape_at table t ≡ Some (Union ms)
     → (b : Bool) → are_apart table ms ≡ b → IsTrue (are_apart table ms)
