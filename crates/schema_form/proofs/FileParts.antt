@@ -155,18 +155,17 @@ and-both true c h = (refl, h)
 and-both false c h = absurd cc
 
 -- a file with all parts has a root and types
-pub has-root : (ms : Fields) → (has_key (codes "host") ms && (has_key (codes "root") ms && has_key (codes "types") ms)) ≡ true → (v : Value) × (value_at (codes "root") ms ≡ Some v)
+pub has-root : (ms : Fields) → (has_key (codes "host") ms && has_key (codes "root") ms && has_key (codes "types") ms) ≡ true → (v : Value) × (value_at (codes "root") ms ≡ Some v)
 has-root ms h =
-    let both = and-both (has_key (codes "host") ms) (has_key (codes "root") ms && has_key (codes "types") ms) h in
-    some-of (value_at (codes "root") ms) (and-both (has_key (codes "root") ms) (has_key (codes "types") ms) both.1).0
+    let both = and-both (has_key (codes "host") ms && has_key (codes "root") ms) (has_key (codes "types") ms) h in
+    some-of (value_at (codes "root") ms) (and-both (has_key (codes "host") ms) (has_key (codes "root") ms) both.0).1
 
-pub has-types : (ms : Fields) → (has_key (codes "host") ms && (has_key (codes "root") ms && has_key (codes "types") ms)) ≡ true → (v : Value) × (value_at (codes "types") ms ≡ Some v)
+pub has-types : (ms : Fields) → (has_key (codes "host") ms && has_key (codes "root") ms && has_key (codes "types") ms) ≡ true → (v : Value) × (value_at (codes "types") ms ≡ Some v)
 has-types ms h =
-    let both = and-both (has_key (codes "host") ms) (has_key (codes "root") ms && has_key (codes "types") ms) h in
-    some-of (value_at (codes "types") ms) (and-both (has_key (codes "root") ms) (has_key (codes "types") ms) both.1).1
+    some-of (value_at (codes "types") ms) (and-both (has_key (codes "host") ms && has_key (codes "root") ms) (has_key (codes "types") ms) h).1
 
 module _ (ms : Fields) (found : Found) (is : IsFound (types_of (dict tt ms)) ms found)
-    (all : (has_key (codes "host") ms && (has_key (codes "root") ms && has_key (codes "types") ms)) ≡ true) where
+    (all : (has_key (codes "host") ms && has_key (codes "root") ms && has_key (codes "types") ms) ≡ true) where
   -- what is made of all parts is the form of the file
   pub made-form : (form : SchemaForm) → IsMadeOf found form → IsForm (dict tt ms) form
   made-form form made =
@@ -201,7 +200,7 @@ module _ (ms : Fields) (found : Found) (is : IsFound (types_of (dict tt ms)) ms 
   made-finds (Err e) faults none h = absurd (none-missing e h)
 
 -- the faults of a file with all parts are those of its parts
-pub file_faults-parts : (ms types : Fields) → (has_key (codes "host") ms && (has_key (codes "root") ms && has_key (codes "types") ms)) ≡ true → types ≡ types_of (dict tt ms)
+pub file_faults-parts : (ms types : Fields) → (has_key (codes "host") ms && has_key (codes "root") ms && has_key (codes "types") ms) ≡ true → types ≡ types_of (dict tt ms)
     → file_faults (dict tt ms) ≡ member_faults (part_faults types) ms
 file_faults-parts ms types all same =
     ap (λ b. unless b Shape ++ member_faults (part_faults (types_of (dict tt ms))) ms) all ∙ ap (λ ts. member_faults (part_faults ts) ms) (sym same)

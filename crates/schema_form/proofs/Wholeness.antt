@@ -75,7 +75,7 @@ by_types file ms (Some v) ordered none is =
 file-types : (file : Value) → IsOrdered file → file_faults file ≡ [] → (member_faults (entry_faults (types_of file)) (types_of file) ≡ []) × AreOrderedMembers (types_of file)
 file-types (dict a ms) ordered none =
     by_types (dict a ms) ms (value_at (codes "types") ms) ordered
-    (append_none (unless (has_key (codes "host") ms && (has_key (codes "root") ms && has_key (codes "types") ms)) Shape) (member_faults (part_faults (types_of (dict a ms))) ms) none).1 refl
+    (append_none (unless (has_key (codes "host") ms && has_key (codes "root") ms && has_key (codes "types") ms) Shape) (member_faults (part_faults (types_of (dict a ms))) ms) none).1 refl
 file-types null ordered none = absurd (here_some Shape none)
 file-types (boolean b) ordered none = absurd (here_some Shape none)
 file-types (integer z) ordered none = absurd (here_some Shape none)

@@ -4,8 +4,8 @@ use Rattle.pointer_core.specs.Path.{Path}
 use Rattle.schema_form.specs.Pointers.{IsPointer}
 use Rattle.schema_form.proofs.pointer.pointer_to.Given as goal
 
-abbrev pub invariant-loop-at : goal.invariant-loop-at
-invariant-loop-at l = (l.at.0 < length l.places) × ((path : Path) → IsPointer l.entries l.models l.places l.at.0 path → IsPointer l.entries l.models l.places l.fn.t.0 (path ++ l.path))
+abbrev pub invariant-loop-entry : goal.invariant-loop-entry
+invariant-loop-entry l = (l.at.0 < length l.places) × ((path : Path) → IsPointer l.entries l.models l.places l.at.0 path → IsPointer l.entries l.models l.places l.fn.t.0 (path ++ l.path))
 
-abbrev pub decreases-loop-at : goal.decreases-loop-at
-decreases-loop-at l = l.at.0
+abbrev pub decreases-loop-entry : goal.decreases-loop-entry
+decreases-loop-entry l = l.at.0
