@@ -1,4 +1,18 @@
-//! The form of schema files: their first fault in form, names, repetitions and the length of the history.
+//! The form of schema files: one walk over the JSON that reads a file into a [`SchemaForm`], or names its first fault.
+//!
+//! ```text
+//! match read_form(alloc, &file) {
+//!     Ok(form) => ..,                        // entries, type expressions by number, models, root, history
+//!     Err(FormError::Wrong(fault)) => ..,    // a rule, and the pointer to where it isn't met
+//!     Err(FormError::Memory) => ..,
+//! }
+//! let laid = taken_apart(alloc, form.expressions)?;                            // where each stands, and what it says
+//! let pointer = pointer_to(alloc, entries, models, laid.places.as_slice(), t)?; // from the file to expression t
+//! ```
+//!
+//! `read_form` promises that the form is that of the file and that the file has no fault in form, names,
+//! repetitions and the range of the history, or that the fault is the first of them in document order. In a form all
+//! numbers name what is there, so nobody has to look at the file again.
 #![tactic(auto)]
 
 mod bases;

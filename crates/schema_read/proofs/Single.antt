@@ -19,7 +19,7 @@ use Rattle.schema_form.specs.declared.form.Expression.{Expression}
 use Rattle.schema_form.specs.declared.form.ModelForm.{ModelForm}
 use Rattle.schema_form.specs.declared.form.Place.{Place}
 use Rattle.schema_form.specs.declared.form.Place.TheVariants as place
-use Rattle.schema_form.specs.Layout.{Gathered}
+use Rattle.schema_form.specs.declared.entries.Gathered.{Gathered}
 use Rattle.schema_form.specs.Pointers.{IsPointer, entry, property, part, entry_path, step_path, property_path}
 use Rattle.schema_form.specs.Form.{IsForm}
 
