@@ -27,14 +27,40 @@ pub fn outcome_of(alloc: Global, schema: Bytes, block: &str) -> Result<Outcome, 
     let words = words_of(alloc, block)?;
     let mut world = world_of(alloc, schema, block)?;
     let mut door = door_of(alloc, block)?;
-    let status = host(alloc, words.as_slice(), &mut world, &mut door);
+    let status = status_of(alloc, words.as_slice(), &mut world, &mut door);
+    left_by(alloc, status, &world, &door.door)
+}
+
+// What a run left.
+fn left_by(
+    alloc: Global,
+    status: u8,
+    world: &MemoryWorld,
+    door: &MemoryDoor,
+) -> Result<Outcome, AllocError> {
+    let reply = Bytes::from_slice(alloc, door.written(0).unwrap_or(b""))?;
+    let next = Bytes::from_slice(alloc, door.written(1).unwrap_or(b""))?;
+    let out = Bytes::from_slice(alloc, world.out())?;
+    let err = Bytes::from_slice(alloc, world.err())?;
     Ok(Outcome {
         status,
-        reply: Bytes::from_slice(alloc, door.door.written(0).unwrap_or(b""))?,
-        next: Bytes::from_slice(alloc, door.door.written(1).unwrap_or(b""))?,
-        out: Bytes::from_slice(alloc, world.out())?,
-        err: Bytes::from_slice(alloc, world.err())?,
+        reply,
+        next,
+        out,
+        err,
     })
+}
+
+// Runs the program at a door of which no link is open, and answers its status.
+fn status_of(
+    alloc: Global,
+    words: &[Txt],
+    world: &mut MemoryWorld,
+    door: &mut SlowDoor<MemoryDoor>,
+) -> u8
+    requires { is_some door.old.door.links.current ≡ false }
+{
+    host(alloc, words, world, door)
 }
 
 // A world whose one file is the schema.
