@@ -11,6 +11,7 @@ pub mod Oneness
 pub mod Entries
 pub mod Items
 pub mod JudgedSteps
+pub mod Following
 pub mod Steps
 pub mod Chars
 pub mod Finding

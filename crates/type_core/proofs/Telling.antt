@@ -1,5 +1,5 @@
 -- What tells the members of a union apart.
-use Rattle.std.proofs.Common.{◌≡◌, ℕ, ℤ, List, [], ◌∷◌, map, Bool, true, false, ◌&&◌, not, ◌↔◌, IsTrue, Option, Some, refl, sym, ◌∙◌}
+use Rattle.std.proofs.Common.{◌≡◌, ℕ, ℤ, List, [], ◌∷◌, map, Bool, true, false, Option, Some, refl, sym, ◌∙◌}
 use Rattle.std.proofs.Math.Bool.{or-false}
 use Rattle.std.proofs.lemmas.Bool.Decides.{same_from_decides, Decides-int_eq}
 use Rattle.std.proofs.lemmas.Slice.Eq.{bytes_eq-Decides}
@@ -9,12 +9,11 @@ use Rattle.std.specs.Ordering.{int_eq}
 use Rattle.std.specs.Str.{bytes_eq}
 use Rattle.snap_core.specs.Value.{Value, null, boolean, integer, text, list, dict}
 use Rattle.snap_core.specs.View.{view}
-use Rattle.snap_core.specs.declared.number.TypeNo.{TypeNo}
 use Rattle.type_table.specs.declared.shape.Shape.{Shape}
 use Rattle.type_table.specs.declared.shape.Shape.TheVariants.{Str, Integer, Boolean, Null, Literal, Enumeration, Refinement, Array, Map, Model}
 use Rattle.type_table.specs.Table.{Table}
 use Rattle.type_table.specs.Names.{shape_by}
-use Rattle.type_table.specs.Unions.{is_same, is_based, takes, base_scalars, scalars_of, is_among, do_meet, is_member, none_meet, texts, integers, booleans, these}
+use Rattle.type_table.specs.Unions.{is_same, is_based, takes, base_scalars, scalars_of, is_among, is_member, these}
 use Rattle.type_table.proofs.Tagging.{list_any-map}
 
 -- equal scalars are so either way round
@@ -58,22 +57,8 @@ list_any-failed : {X Y : Type 0} (test : Y → Bool) (f : X → Y) (xs : List X)
 list_any-failed test f [] fails = refl
 list_any-failed test f (x ∷ xs) fails = rw (fails x, list_any-failed test f xs fails)
 
--- no text is an integer or a boolean
-pub no_integers : (ts : List (List ℕ)) → list_any (is_among integers) (map text ts) ≡ false
-no_integers ts = list_any-failed (is_among integers) text ts (λ s. refl)
-
-pub no_booleans : (ts : List (List ℕ)) → list_any (is_among booleans) (map text ts) ≡ false
-no_booleans ts = list_any-failed (is_among booleans) text ts (λ s. refl)
-
--- each text is a text
-pub some_text : (ts : List (List ℕ)) (none : Bool) → IsTrue none ↔ (ts ≡ []) → not none ≡ list_any (is_among texts) (map text ts)
-some_text [] true h = refl
-some_text [] false h = cc (h.1 refl)
-some_text (t ∷ ts) true h = cc (h.0 refl)
-some_text (t ∷ ts) false h = refl
-
 -- the texts of an enumeration
-pub listed : (s : List ℕ) (ts : List (List ℕ)) → list_any (is_same (text s)) (map text ts) ≡ list_any (bytes_eq s) ts
+listed : (s : List ℕ) (ts : List (List ℕ)) → list_any (is_same (text s)) (map text ts) ≡ list_any (bytes_eq s) ts
 listed s ts = list_any-map (is_same (text s)) text ts
 
 based : (base : Option Shape) (v : Value) → is_based base v ≡ is_among (base_scalars base) v
@@ -111,10 +96,3 @@ takes-is_among table (Some (Array u)) v member = refl
 takes-is_among table (Some (Map u)) v member = refl
 takes-is_among table (Some (Model m)) v member = refl
 takes-is_among table _ v member = cc
-
--- one member before the others
-pub none_meet-next : (table : Table) (t : TypeNo) (others : List TypeNo) (meets : Bool)
-    → meets ≡ list_any (λ u. do_meet (scalars_of table (shape_by table t.0)) (scalars_of table (shape_by table u.0))) others
-    → none_meet (map (λ u. scalars_of table (shape_by table u.0)) (t ∷ others)) ≡ (not meets && none_meet (map (λ u. scalars_of table (shape_by table u.0)) others))
-none_meet-next table t others meets e =
-    rw (e, list_any-map (do_meet (scalars_of table (shape_by table t.0))) (λ (u : TypeNo). scalars_of table (shape_by table u.0)) others)

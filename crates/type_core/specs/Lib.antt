@@ -4,6 +4,7 @@ pub mod Makes
 pub mod Made
 pub mod Sound
 pub mod JudgingSteps
+pub mod Behind
 pub mod Doubled
 pub mod Seen
 pub mod Finding

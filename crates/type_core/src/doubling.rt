@@ -7,13 +7,14 @@ ghost use Rattle.type_core.specs.Doubled as specs;
 ghost use Rattle.type_table.specs.Identifiers.{identifier_of, ident_under};
 ghost use Rattle.type_core.specs.Finding.{Finds};
 
+use crate::followed::Followed;
 use crate::judging::judged;
 use crate::seen::Seen;
 use crate::types::Types;
 use pointer_core::Pointer;
 use snap_core::{Field, ModelNo, Snap, TypeNo, position};
 use std::alloc::{AllocError, Global};
-use type_table::{Property, Shape, Tagged, identifier_under};
+use type_table::{Property, Shape, identifier_under};
 
 /// Where the first model stands whose identifier an earlier one of the same model has, in a value of
 /// the root's model. A text and a number are never the same identifier, and identifiers of different
@@ -23,11 +24,11 @@ pub fn doubled(alloc: Global, types: &Types, s: &Snap) -> Result<Option<Pointer>
     ensures doubled { IfOk result
         (λ path. path ≡ specs.doubled_of (specs.identifiers_of types.now (view s.now))) }
 {
-    let (tagged, _) = types.inside();
+    let (followed, _) = types.inside();
     let mut seen = Seen::new(alloc);
     match s {
         Snap::Dict(fields) => {
-            find_in_model(alloc, tagged, &mut seen, types.root(), fields.as_slice())
+            find_in_model(alloc, followed, &mut seen, types.root(), fields.as_slice())
         }
         _ => Ok(None),
     }
@@ -37,7 +38,7 @@ pub fn doubled(alloc: Global, types: &Types, s: &Snap) -> Result<Option<Pointer>
 #[cycle(finding)]
 fn find_doubled(
     alloc: Global,
-    types: &Tagged,
+    types: &Followed,
     seen: &mut Seen,
     t: TypeNo,
     given: &Snap,
@@ -56,7 +57,7 @@ fn find_doubled(
 #[cycle(finding)]
 fn find_in_list(
     alloc: Global,
-    types: &Tagged,
+    types: &Followed,
     seen: &mut Seen,
     items: &[Snap],
     shape: Option<&Shape>,
@@ -74,7 +75,7 @@ fn find_in_list(
 #[cycle(finding)]
 fn find_in_items(
     alloc: Global,
-    types: &Tagged,
+    types: &Followed,
     seen: &mut Seen,
     of: TypeNo,
     items: &[Snap],
@@ -95,7 +96,7 @@ fn find_in_items(
 #[cycle(finding)]
 fn find_in_record(
     alloc: Global,
-    types: &Tagged,
+    types: &Followed,
     seen: &mut Seen,
     fields: &[Field],
     shape: Option<&Shape>,
@@ -114,7 +115,7 @@ fn find_in_record(
 #[cycle(finding)]
 fn find_in_values(
     alloc: Global,
-    types: &Tagged,
+    types: &Followed,
     seen: &mut Seen,
     of: TypeNo,
     fields: &[Field],
@@ -136,7 +137,7 @@ fn find_in_values(
 #[cycle(finding)]
 fn find_in_model(
     alloc: Global,
-    types: &Tagged,
+    types: &Followed,
     seen: &mut Seen,
     m: ModelNo,
     fields: &[Field],
@@ -154,7 +155,7 @@ fn find_in_model(
 /// Whether the identifier of a record stood earlier in one of its model; where it didn't, it is
 /// seen.
 fn find_itself(
-    types: &Tagged,
+    types: &Followed,
     seen: &mut Seen,
     m: ModelNo,
     fields: &[Field],
@@ -172,7 +173,7 @@ fn find_itself(
 #[cycle(finding)]
 fn find_in_properties(
     alloc: Global,
-    types: &Tagged,
+    types: &Followed,
     seen: &mut Seen,
     properties: &[Property],
     fields: &[Field],
@@ -194,7 +195,7 @@ fn find_in_properties(
 #[cycle(finding)]
 fn find_under(
     alloc: Global,
-    types: &Tagged,
+    types: &Followed,
     seen: &mut Seen,
     property: &Property,
     fields: &[Field],

@@ -1,13 +1,16 @@
 //! Which shape judges a value.
-ghost use Rattle.std.specs.Prelude.{◌≡◌, ℕ, Option, None, if◌then◌else◌};
+ghost use Rattle.std.specs.Prelude.{◌≡◌, ℕ, Option, Some, None, if◌then◌else◌};
 ghost use Rattle.std.specs.Option.{option_copied};
 ghost use Rattle.snap_core.specs.Value.{IsPlain};
 ghost use Rattle.snap_core.specs.View.{view};
 ghost use Rattle.type_table.specs.declared.shape.Shape.{Shape as Judge};
+ghost use Rattle.type_table.specs.declared.shape.Shape.TheVariants.{Union};
+ghost use Rattle.type_table.specs.Table.{shape_at};
 ghost use Rattle.type_table.specs.Identifiers.{is_firm};
 ghost use Rattle.type_core.specs.Judging.{judged_by, judged_step, shape_for};
 ghost use Rattle.type_core.specs.JudgingSteps.{judged_after};
 
+use crate::followed::Followed;
 use snap_core::{Snap, TypeNo};
 use type_table::{Shape, Tagged, choose};
 
@@ -18,7 +21,34 @@ enum Step<'a> {
 }
 
 /// The shape that judges a value at a type: names, optional types, maybes and unions lead to it.
-pub fn judged<'a>(types: &'a Tagged, given: &Snap, t: TypeNo) -> Option<&'a Shape>
+pub fn judged<'a>(types: &'a Followed, given: &Snap, t: TypeNo) -> Option<&'a Shape>
+    requires { IsPlain (view given.now) }
+    ensures { option_copied result ≡ judged_by types.now (view given.now) t.0 }
+{
+    let at = types.behind(given, t);
+    match types.table().shape(at) {
+        Some(Shape::Union(members)) => judged_by_member(types, given, at, members.as_slice()),
+        _ => judged_in_steps(types.tagged(), given, at),
+    }
+}
+
+/// The same at the union `t`.
+fn judged_by_member<'a>(
+    types: &'a Followed,
+    given: &Snap,
+    t: TypeNo,
+    members: &[TypeNo],
+) -> Option<&'a Shape>
+    requires union { shape_at types.now t.0 ≡ Some (Union members.now) }
+    requires plain { IsPlain (view given.now) }
+    ensures { option_copied result ≡ judged_by types.now (view given.now) t.0 }
+{
+    let member = choose(types.tagged(), t, members, given)?;
+    judged_in_steps(types.tagged(), given, types.behind(given, member))
+}
+
+/// The same step by step, as many as there are types at most.
+fn judged_in_steps<'a>(types: &'a Tagged, given: &Snap, t: TypeNo) -> Option<&'a Shape>
     requires { IsPlain (view given.now) }
     ensures { option_copied result ≡ judged_by types.now (view given.now) t.0 }
 {

@@ -12,6 +12,7 @@ ghost use Rattle.type_core.specs.Made.{Answers, IfRefused, value_of, refused_as}
 ghost use Rattle.type_core.specs.Sound.{IsSound};
 ghost use Rattle.type_core.specs.declared.making.MakeError.TheVariants.{Memory};
 
+use crate::followed::Followed;
 use crate::judging::judged;
 use crate::limits::fits;
 use crate::records::{make_absent, make_entries, make_items, make_properties};
@@ -20,7 +21,7 @@ use pointer_core::{Pointer, Refusal, Rule};
 use snap_core::{Field, Snap, TypeNo};
 use std::alloc::{AllocError, Global};
 use thiserror::Error;
-use type_table::{Condition, Shape, Tagged, takes};
+use type_table::{Condition, Shape, takes};
 
 /// The greatest weight of a value that is made.
 const MOST_WEIGHT: u32 = 1_048_576;
@@ -82,10 +83,10 @@ fn make_any(
         (specs.made_by types.now.table types.now.defaults t.0 (value_of given.entry)) }
     ensures sound { IsSound types.now }
 {
-    let (tagged, defaults) = types.inside();
+    let (followed, defaults) = types.inside();
     match given {
-        Some(value) => make_value(alloc, tagged, defaults, t, value),
-        None => make_absent(alloc, tagged, defaults, t),
+        Some(value) => make_value(alloc, followed, defaults, t, value),
+        None => make_absent(alloc, followed, defaults, t),
     }
 }
 
@@ -112,7 +113,7 @@ pub fn refused(alloc: Global, rule: Rule) -> MakeError
 #[cycle(making)]
 pub fn make_value(
     alloc: Global,
-    types: &Tagged,
+    types: &Followed,
     defaults: &[Option<Snap>],
     t: TypeNo,
     given: &Snap,
@@ -130,7 +131,7 @@ pub fn make_value(
 
 fn make_scalar(
     alloc: Global,
-    types: &Tagged,
+    types: &Followed,
     given: &Snap,
     shape: Option<&Shape>,
 ) -> Result<Snap, MakeError>
@@ -189,7 +190,7 @@ fn count_chars(text: &str) -> usize
 #[cycle(making)]
 fn make_list(
     alloc: Global,
-    types: &Tagged,
+    types: &Followed,
     defaults: &[Option<Snap>],
     items: &[Snap],
     shape: Option<&Shape>,
@@ -212,7 +213,7 @@ fn make_list(
 #[cycle(making)]
 fn make_dict(
     alloc: Global,
-    types: &Tagged,
+    types: &Followed,
     defaults: &[Option<Snap>],
     fields: &[Field],
     shape: Option<&Shape>,

@@ -9,18 +9,19 @@ ghost use Rattle.type_core.specs.Making as specs;
 ghost use Rattle.type_core.specs.Making.{Outcome};
 ghost use Rattle.type_core.specs.Made.{Answers};
 
+use crate::followed::Followed;
 use crate::judging::judged;
 use crate::making::{MakeError, make_value, refused};
 use list_core::Parts;
 use pointer_core::{Refusal, Rule};
 use snap_core::{Field, Fields, Items, Snap, Txt, TypeNo, position};
 use std::alloc::{AllocError, Global};
-use type_table::{Property, Shape, Tagged, is_keyed, own_identifier};
+use type_table::{Property, Shape, is_keyed, own_identifier};
 
 /// What a type makes where no value is given.
 pub fn make_absent(
     alloc: Global,
-    types: &Tagged,
+    types: &Followed,
     defaults: &[Option<Snap>],
     t: TypeNo,
 ) -> Result<Snap, MakeError>
@@ -38,7 +39,7 @@ pub fn make_absent(
 }
 
 /// null, where the safe reference `t` is a property's type.
-fn clear(alloc: Global, types: &Tagged, t: TypeNo) -> Result<Snap, MakeError>
+fn clear(alloc: Global, types: &Followed, t: TypeNo) -> Result<Snap, MakeError>
     ensures { Answers view result (if is_firm types.now t.0 then specs.mistyped else Ok null) }
 {
     if types.is_firm(t) {
@@ -60,7 +61,7 @@ fn copy_default(alloc: Global, defaults: &[Option<Snap>], t: TypeNo) -> Result<S
 #[cycle(making)]
 pub fn make_items(
     alloc: Global,
-    types: &Tagged,
+    types: &Followed,
     defaults: &[Option<Snap>],
     of: TypeNo,
     items: &[Snap],
@@ -82,7 +83,7 @@ pub fn make_items(
 #[cycle(making)]
 pub fn make_entries(
     alloc: Global,
-    types: &Tagged,
+    types: &Followed,
     defaults: &[Option<Snap>],
     of: TypeNo,
     fields: &[Field],
@@ -105,7 +106,7 @@ pub fn make_entries(
 /// identifier.
 fn keyed(
     alloc: Global,
-    types: &Tagged,
+    types: &Followed,
     of: TypeNo,
     field: &Field,
     made: Result<Snap, MakeError>,
@@ -127,7 +128,7 @@ fn keyed(
 #[cycle(making)]
 pub fn make_properties(
     alloc: Global,
-    types: &Tagged,
+    types: &Followed,
     defaults: &[Option<Snap>],
     fields: &[Field],
     properties: &[Property],
@@ -149,7 +150,7 @@ pub fn make_properties(
 #[cycle(making)]
 fn make_property(
     alloc: Global,
-    types: &Tagged,
+    types: &Followed,
     defaults: &[Option<Snap>],
     fields: &[Field],
     property: &Property,

@@ -9,15 +9,16 @@ ghost use Rattle.type_table.specs.Identifiers.{identifier_of, is_reference};
 ghost use Rattle.type_table.specs.Targets.{target_of};
 ghost use Rattle.type_table.specs.Unions as unions;
 
+use crate::followed::Followed;
 use list_core::Parts;
 use snap_core::{ModelNo, Name, Snap, TypeNo};
 use std::marker::Model;
-use type_table::{ModelType, Properties, Shape, Tagged, chosen_at, identifier_of, target_of};
+use type_table::{ModelType, Properties, Shape, chosen_at, target_of};
 
 /// The types of a schema. Contracts see a `Catalog`.
 #[derive(Debug, Drop)]
 pub struct Types {
-    tagged: Tagged,
+    followed: Followed,
     root: ModelNo,
     defaults: Parts<Option<Snap>>,
 }
@@ -32,19 +33,19 @@ impl Model for Types {
 
     ghost coded = { Prim.hlevel (codes, snap.the_row.coded) };
 
-    ghost view = { λ t. record { table = t.tagged; root = t.root; defaults = t.defaults } };
+    ghost view = { λ t. record { table = t.followed; root = t.root; defaults = t.defaults } };
 
-    ghost invariant = { λ t. IsSound (record { table = t.tagged; root = t.root; defaults = t.defaults }) };
+    ghost invariant = { λ t. IsSound (record { table = t.followed; root = t.root; defaults = t.defaults }) };
 }
 
 impl Types {
     /// Puts finished types together.
-    pub fn of(tagged: Tagged, root: ModelNo, defaults: Parts<Option<Snap>>) -> Types
-        requires { IsSound (record { table = tagged; root = root; defaults = defaults }) }
-        ensures { result ≡ record { table = tagged; root = root; defaults = defaults } }
+    pub fn of(followed: Followed, root: ModelNo, defaults: Parts<Option<Snap>>) -> Types
+        requires { IsSound (record { table = followed; root = root; defaults = defaults }) }
+        ensures { result ≡ record { table = followed; root = root; defaults = defaults } }
     {
         Types {
-            tagged,
+            followed,
             root,
             defaults,
         }
@@ -81,7 +82,7 @@ impl Types {
         requires { m.0 < length self.now.table.models }
         ensures { option_copied result ≡ option_map (λ p. p.name) (identifier_of self.now.table m.0) }
     {
-        let property = identifier_of(self.tagged.table(), m)?;
+        let property = self.followed.table().identifier(m)?;
         Some(&property.name)
     }
 
@@ -94,8 +95,8 @@ impl Types {
         ensures identified { IfSome result (λ m. IsSome (identifier_of self.now.table m.0)) }
         ensures none { IfNone result (is_reference (shape_at self.now.table t.0) ≡ false) }
     {
-        let (tagged, _) = self.inside();
-        target_of(tagged.table(), t)
+        let (followed, _) = self.inside();
+        target_of(followed.table(), t)
     }
 
     /// The model's own type. Other types may have the same shape.
@@ -115,7 +116,7 @@ impl Types {
         ensures names { IsShapeOf (plan_of self.now.table) result.now }
         ensures sound { IsSound self.now }
     {
-        &self.tagged.table().shapes.as_slice()[t.0]
+        &self.followed.table().shapes.as_slice()[t.0]
     }
 
     fn model(&self, m: ModelNo) -> &ModelType
@@ -123,17 +124,17 @@ impl Types {
         ensures model { slice_get self.now.table.models m.0 ≡ Some result.now }
         ensures sound { IsSound self.now }
     {
-        &self.tagged.table().models.as_slice()[m.0]
+        &self.followed.table().models.as_slice()[m.0]
     }
 
-    /// The types with the tags of their unions, and what the optional types make where no value
+    /// The types as they were followed, and what the optional types make where no value
     /// is given.
-    pub(crate) fn inside(&self) -> (&Tagged, &[Option<Snap>])
+    pub(crate) fn inside(&self) -> (&Followed, &[Option<Snap>])
         ensures types { result.0.now ≡ self.now.table }
         ensures defaults { result.1.now ≡ self.now.defaults }
         ensures sound { IsSound self.now }
     {
-        (&self.tagged, self.defaults.as_slice())
+        (&self.followed, self.defaults.as_slice())
     }
 }
 
@@ -146,6 +147,6 @@ pub fn chosen(types: &Types, t: TypeNo, given: &Snap) -> Option<TypeNo>
     ensures known { IfSome result (λ m. m.0 < length types.now.table.shapes) }
     ensures taker { (u : TypeNo) → unions.IsTaker types.now.table t.0 u (view given.now) → result ≡ Some u }
 {
-    let (tagged, _) = types.inside();
-    chosen_at(tagged, t, given)
+    let (followed, _) = types.inside();
+    chosen_at(followed.tagged(), t, given)
 }

@@ -10,6 +10,7 @@ use Rattle.type_table.specs.declared.shape.Shape.TheVariants.{Model}
 use Rattle.type_table.specs.declared.shape.Property.{Property}
 use Rattle.type_table.specs.declared.shape.ModelType.{ModelType}
 use Rattle.type_table.specs.Table.{Table, Plan, HoldsPlain, NamesModel, NamesTypes, AreNamed, AreTyped, IsModelOf, IsShapeOf, IsBegun, plan_of, leads_of, parts_of}
+use Rattle.type_core.proofs.Following.{slice_get-last}
 use Rattle.type_draft.specs.Reaching.{AreKnown}
 
 -- what stands in a list stands at the same place of a longer one
@@ -22,14 +23,6 @@ slice_get-more (y ∷ xs) ys (suc i) x h = slice_get-more xs ys i x h
 pub slice_get-end : {X : Type 0} (xs : List X) (y : X) → slice_get (xs ++ y ∷ []) (length xs) ≡ Some y
 slice_get-end [] y = refl
 slice_get-end (x ∷ xs) y = slice_get-end xs y
-
--- what stands in a list with one more element stood there before, or is that element
-pub slice_get-last : {X : Type 0} (xs : List X) (y : X) (i : ℕ) (x : X)
-    → slice_get (xs ++ y ∷ []) i ≡ Some x → (slice_get xs i ≡ Some x) ⊎ ((i ≡ length xs) × (x ≡ y))
-slice_get-last [] y zero x h = inr (refl, cc)
-slice_get-last [] y (suc i) x h = cc
-slice_get-last (z ∷ xs) y zero x h = inl h
-slice_get-last (z ∷ xs) y (suc i) x h = elim (slice_get-last xs y i x h) [ inl e ↦ inl e | inr e ↦ inr (ap (λ n. suc n) e.0, e.1) ]
 
 -- a write leaves what differs from the element that it replaces
 pub slice_get-set : {X : Type 0} (xs : List X) (i j : ℕ) (x y z : X)

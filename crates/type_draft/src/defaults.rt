@@ -12,15 +12,15 @@ use crate::needs::order_of_defaults;
 use list_core::Parts;
 use snap_core::{Snap, TypeNo};
 use std::alloc::{AllocError, Global};
-use type_core::{MakeError, fits, make_value};
-use type_table::{Shape, Tagged};
+use type_core::{Followed, MakeError, fits, make_value};
+use type_table::Shape;
 
 /// The greatest weight of a default once it is made.
 const MOST_WEIGHT: u32 = 65_536;
 
 /// What each optional type makes of its default, by the types' numbers; none where a default isn't
 /// made. A default that needs others is made after them.
-pub fn defaults_of(alloc: Global, types: &Tagged) -> Result<Parts<Option<Snap>>, AllocError>
+pub fn defaults_of(alloc: Global, types: &Followed) -> Result<Parts<Option<Snap>>, AllocError>
     requires plain { All HoldsPlain types.now.shapes }
     ensures made { IfOk result (λ defaults. AreMade types.now defaults) }
     ensures all { IfOk result (λ defaults. AreAll types.now defaults) }
@@ -49,7 +49,7 @@ fn unknown(alloc: Global, count: usize) -> Result<Parts<Option<Snap>>, AllocErro
 /// Adds the defaults that are made with those that are known; whether there was one.
 fn sweep(
     alloc: Global,
-    types: &Tagged,
+    types: &Followed,
     defaults: &mut Parts<Option<Snap>>,
 ) -> Result<bool, AllocError>
     requires plain { All HoldsPlain types.now.shapes }
@@ -71,7 +71,7 @@ fn sweep(
 /// Adds the default of a type where it is made and isn't known; whether it was added.
 fn add_default(
     alloc: Global,
-    types: &Tagged,
+    types: &Followed,
     defaults: &mut Parts<Option<Snap>>,
     t: TypeNo,
 ) -> Result<bool, AllocError>
@@ -95,7 +95,7 @@ fn add_default(
 /// What a type makes of its default, if it makes anything and it isn't known.
 fn new_default(
     alloc: Global,
-    types: &Tagged,
+    types: &Followed,
     defaults: &[Option<Snap>],
     t: TypeNo,
 ) -> Result<Option<Snap>, AllocError>
@@ -127,7 +127,7 @@ pub fn is_known(defaults: &[Option<Snap>], t: TypeNo) -> bool
 /// What a type makes of a value, if it makes something light enough for a default.
 fn make_light(
     alloc: Global,
-    types: &Tagged,
+    types: &Followed,
     defaults: &[Option<Snap>],
     t: TypeNo,
     given: &Snap,

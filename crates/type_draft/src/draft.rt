@@ -15,8 +15,8 @@ use pointer_core::SchemaRule;
 use snap_core::{ModelNo, Name, TypeNo};
 use std::alloc::{AllocError, Global};
 use std::marker::Model;
-use type_core::Types;
-use type_table::{ModelType, Properties, Shape, Table, Tagged};
+use type_core::{Followed, Types};
+use type_table::{ModelType, Properties, Shape, Table};
 
 /// The types of a schema while they are put together. Contracts see a `Plan`.
 #[derive(Debug, Drop)]
@@ -172,13 +172,13 @@ fn finished(alloc: Global, table: Table, order: &Order, root: ModelNo) -> Result
     ensures wrong { IfWrong result (λ t rule. IsFirstFault table t.0 rule) }
 {
     check_types(alloc, &table, order.components.as_slice())?;
-    let tagged = Tagged::new(alloc, table)?;
-    let defaults = defaults_of(alloc, &tagged)?;
-    match missing_default(tagged.table(), defaults.as_slice()) {
+    let followed = Followed::new(alloc, table, order.left.as_slice())?;
+    let defaults = defaults_of(alloc, &followed)?;
+    match missing_default(followed.table(), defaults.as_slice()) {
         Some(t) => Err(DraftError::Wrong {
             t,
             rule: SchemaRule::Default,
         }),
-        None => Ok(Types::of(tagged, root, defaults)),
+        None => Ok(Types::of(followed, root, defaults)),
     }
 }

@@ -7,8 +7,8 @@ ghost use Rattle.type_table.specs.Table.{HoldsPlain};
 
 use snap_core::{Field, Snap, TypeNo, position};
 use std::alloc::{AllocError, Global};
-use type_core::judged;
-use type_table::{Property, Shape, Tagged};
+use type_core::{Followed, judged};
+use type_table::{Property, Shape};
 
 /// What the search does next: go to a type, or leave it once those that it needs are left.
 #[derive(Clone, Copy, Debug)]
@@ -27,7 +27,7 @@ struct Search {
 
 /// All types, each optional one after those whose defaults its own needs, where there is such an
 /// order.
-pub fn order_of_defaults(alloc: Global, types: &Tagged) -> Result<Vec<TypeNo>, AllocError>
+pub fn order_of_defaults(alloc: Global, types: &Followed) -> Result<Vec<TypeNo>, AllocError>
     requires plain { All HoldsPlain types.now.shapes }
 {
     let count = types.table().shapes.len();
@@ -45,7 +45,7 @@ pub fn order_of_defaults(alloc: Global, types: &Tagged) -> Result<Vec<TypeNo>, A
 
 impl Search {
     /// Takes turns until none is left.
-    fn run(&mut self, types: &Tagged) -> Result<(), AllocError>
+    fn run(&mut self, types: &Followed) -> Result<(), AllocError>
         requires { All HoldsPlain types.now.shapes }
     {
         for _turn in 0..usize::MAX {
@@ -57,7 +57,7 @@ impl Search {
         Ok(())
     }
 
-    fn take(&mut self, types: &Tagged, turn: Turn) -> Result<(), AllocError>
+    fn take(&mut self, types: &Followed, turn: Turn) -> Result<(), AllocError>
         requires { All HoldsPlain types.now.shapes }
     {
         match turn {
@@ -70,7 +70,7 @@ impl Search {
     }
 
     /// Plans to leave a type after those that its default needs, unless it was seen.
-    fn enter(&mut self, types: &Tagged, t: TypeNo) -> Result<(), AllocError>
+    fn enter(&mut self, types: &Followed, t: TypeNo) -> Result<(), AllocError>
         requires { All HoldsPlain types.now.shapes }
     {
         if !mark(&mut self.seen, t) {
@@ -95,7 +95,7 @@ fn mark(seen: &mut [bool], t: TypeNo) -> bool {
 /// Plans to enter the types whose defaults are taken where a type makes the value.
 #[cycle(needs)]
 fn add_needs(
-    types: &Tagged,
+    types: &Followed,
     turns: &mut Vec<Turn>,
     t: TypeNo,
     given: &Snap,
@@ -112,7 +112,7 @@ fn add_needs(
 
 #[cycle(needs)]
 fn add_item_needs(
-    types: &Tagged,
+    types: &Followed,
     turns: &mut Vec<Turn>,
     shape: Option<&Shape>,
     items: &[Snap],
@@ -129,7 +129,7 @@ fn add_item_needs(
 
 #[cycle(needs)]
 fn add_field_needs(
-    types: &Tagged,
+    types: &Followed,
     turns: &mut Vec<Turn>,
     shape: Option<&Shape>,
     fields: &[Field],
@@ -147,7 +147,7 @@ fn add_field_needs(
 
 #[cycle(needs)]
 fn add_value_needs(
-    types: &Tagged,
+    types: &Followed,
     turns: &mut Vec<Turn>,
     of: TypeNo,
     fields: &[Field],
@@ -162,7 +162,7 @@ fn add_value_needs(
 
 #[cycle(needs)]
 fn add_property_needs(
-    types: &Tagged,
+    types: &Followed,
     turns: &mut Vec<Turn>,
     fields: &[Field],
     properties: &[Property],

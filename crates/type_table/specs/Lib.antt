@@ -4,6 +4,7 @@ pub mod Identifiers
 pub mod Unions
 pub mod Targets
 pub mod NameEnds
+pub mod IdentifierPlaces
 pub mod Marks
 pub mod Standings
 pub mod ScalarSets

@@ -1,15 +1,18 @@
 //! Identifiers of models, and which scalars references to them take.
-ghost use Rattle.std.specs.Prelude.{◌≡◌, IfOk};
+ghost use Rattle.std.specs.Prelude.{◌≡◌, List, IfOk};
 ghost use Rattle.std.specs.Option.{option_copied, option_map};
 ghost use Rattle.snap_core.specs.Value.{IsPlain, ArePlainMembers};
 ghost use Rattle.snap_core.specs.View.{view, fields_view};
-ghost use Rattle.type_table.specs.Table.{shape_at};
+ghost use Rattle.type_table.specs.declared.shape.ModelType.{ModelType as Kept};
+ghost use Rattle.type_table.specs.Table.{Table as Types, shape_at};
+ghost use Rattle.type_table.specs.IdentifierPlaces as places;
 ghost use Rattle.type_table.specs.Identifiers as specs;
 ghost use Rattle.type_table.specs.Targets as targets;
 ghost use Rattle.type_table.specs.Unions.{model_in};
 
-use crate::shape::{Property, Shape};
+use crate::shape::{ModelType, Property, Shape};
 use crate::table::Table;
+use list_core::Parts;
 use snap_core::{Field, ModelNo, Snap, TypeNo, find};
 use std::alloc::{AllocError, Global};
 
@@ -20,14 +23,40 @@ pub fn is_identifier(shape: Option<&Shape>) -> bool
     matches!(shape, Some(Shape::Identifier | Shape::IdentifierNumber))
 }
 
-/// The identifier of a model.
-pub fn identifier_of(table: &Table, m: ModelNo) -> Option<&Property>
-    ensures { option_copied result ≡ specs.identifier_of table.now m.0 }
+/// Where the identifier of each model stands among its properties.
+pub fn identifier_places(
+    alloc: Global,
+    shapes: &[Shape],
+    models: &[ModelType],
+) -> Result<Parts<Option<usize>>, AllocError>
+    ensures { let table : Types = record { shapes = shapes.now; models = models.now } in
+        IfOk result (λ found. found ≡ places.identifier_places table) }
 {
-    table
-        .properties(m)
-        .iter()
-        .find(|p| is_identifier(table.shape(p.of)))
+    let mut found = Parts::new(alloc);
+    for model in models {
+        found.push(identifier_place(shapes, model.properties.as_slice()))?;
+    }
+    Ok(found)
+}
+
+fn identifier_place(shapes: &[Shape], properties: &[Property]) -> Option<usize>
+    ensures { (models : List Kept)
+        → result ≡ places.identifier_place (record { shapes = shapes.now; models = models }) properties.now }
+{
+    for place in 0..properties.len() {
+        if identifies(shapes, &properties[place]) {
+            return Some(place);
+        }
+    }
+    None
+}
+
+/// Whether a property's type is directly an identifier type.
+fn identifies(shapes: &[Shape], property: &Property) -> bool
+    ensures { (models : List Kept)
+        → result ≡ specs.identifies (record { shapes = shapes.now; models = models }) property.now }
+{
+    is_identifier(shapes.get(property.of.0))
 }
 
 /// The identifier of the model that a type is directly.
@@ -35,7 +64,7 @@ pub fn identifier_at(table: &Table, u: TypeNo) -> Option<&Property>
     ensures { option_copied result ≡ specs.identifier_in table.now (shape_at table.now u.0) }
 {
     match table.shape(u) {
-        Some(Shape::Model(m)) => identifier_of(table, *m),
+        Some(Shape::Model(m)) => table.identifier(*m),
         _ => None,
     }
 }
@@ -80,7 +109,7 @@ pub fn identifier_under<'a>(table: &Table, m: ModelNo, fields: &'a [Field]) -> O
     ensures { specs.ident_of (option_map view (option_copied result))
         ≡ specs.ident_under (specs.identifier_of table.now m.0) (fields_view fields.now) }
 {
-    let property = identifier_of(table, m)?;
+    let property = table.identifier(m)?;
     find(fields, property.name.text())
 }
 

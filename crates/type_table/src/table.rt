@@ -1,8 +1,11 @@
 ghost use Rattle.std.specs.Prelude.{◌≡◌, ℕ, MatchOption, IfOk};
 ghost use Rattle.std.specs.Option.{option_copied};
 ghost use Rattle.type_table.specs.Table.{shape_at, properties_of};
+ghost use Rattle.type_table.specs.Identifiers.{identifier_of};
+ghost use Rattle.type_table.specs.IdentifierPlaces as places;
 ghost use Rattle.type_table.specs.Names.{named_by, named_step, shape_by};
 
+use crate::identifiers::identifier_places;
 use crate::names::ends_of;
 use crate::shape::{ModelType, Property, Shape};
 use list_core::Parts;
@@ -17,11 +20,15 @@ pub struct Table {
     pub models: Parts<ModelType>,
     /// The type that each type is, names followed; none where names lead in a circle.
     ends: Parts<Option<TypeNo>>,
+    /// Where each model's identifier stands among its properties.
+    identifiers: Parts<Option<usize>>,
 }
 
 impl Model for Table {
     ghost use Rattle.type_table.specs.Table as specs;
+    ghost use Rattle.std.specs.Prelude.{◌≡◌};
     ghost use Rattle.type_table.specs.NameEnds.{AreEnds};
+    ghost use Rattle.type_table.specs.IdentifierPlaces.{identifier_places};
     ghost use Rattle.std.specs.Coded.{codes};
     ghost use Rattle.snap_core.specs.contracts.snap.Snap as snap;
 
@@ -31,7 +38,8 @@ impl Model for Table {
 
     ghost view = { λ t. record { shapes = t.shapes; models = t.models } };
 
-    ghost invariant = { λ t. AreEnds (record { shapes = t.shapes; models = t.models }) t.ends };
+    ghost invariant = { λ t. AreEnds (record { shapes = t.shapes; models = t.models }) t.ends
+        × (t.identifiers ≡ identifier_places (record { shapes = t.shapes; models = t.models })) };
 }
 
 impl Table {
@@ -46,10 +54,12 @@ impl Table {
         ensures { IfOk result (λ table. table ≡ record { shapes = shapes; models = models }) }
     {
         let ends = ends_of(alloc, shapes.as_slice(), order)?;
+        let identifiers = identifier_places(alloc, shapes.as_slice(), models.as_slice())?;
         Ok(Table {
             shapes,
             models,
             ends,
+            identifiers,
         })
     }
 
@@ -67,6 +77,13 @@ impl Table {
             Some(model) => model.properties.as_slice(),
             None => &[],
         }
+    }
+
+    /// The identifier of a model.
+    pub fn identifier(&self, m: ModelNo) -> Option<&Property>
+        ensures { option_copied result ≡ identifier_of self.now m.0 }
+    {
+        property_kept(self.properties(m), self.identifiers.get(m.0))
     }
 
     /// The type that a type is, names followed.
@@ -110,5 +127,18 @@ impl Table {
         ensures { option_copied result ≡ shape_by self.now t.0 }
     {
         self.shape(self.named(t))
+    }
+}
+
+/// The property at the place that is kept for its model, if there is one.
+fn property_kept<'a>(
+    properties: &'a [Property],
+    kept: Option<&Option<usize>>,
+) -> Option<&'a Property>
+    ensures { option_copied result ≡ places.property_kept properties.now (option_copied kept.entry) }
+{
+    match kept {
+        Some(Some(place)) => properties.get(*place),
+        _ => None,
     }
 }

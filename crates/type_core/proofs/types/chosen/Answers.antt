@@ -10,7 +10,7 @@ use Rattle.type_core.proofs.types.chosen.Goals as goal
 answered : (c : goal.After-chosen_at)
     → c.chosen_at.result ≡ chosen_by c.args.types.now.table (shape_at c.args.types.now.table c.args.t.0) (view c.args.given.now)
 answered c =
-    c.chosen_at.ensures ∙ ap (λ (table : Table). chosen_by table (shape_at table c.args.t.0) (view c.args.given.now)) c.inside.ensures.types
+    c.chosen_at.ensures ∙ ap (λ (table : Table). chosen_by table (shape_at table c.args.t.0) (view c.args.given.now)) (c.tagged.ensures.types ∙ c.inside.ensures.types)
 
 pub returns-clause-known : goal.returns-clause-known
 returns-clause-known c = rw (answered c) (IfSome-chosen_by c.args.types.now c.inside.ensures.sound c.args.t.0 (view c.args.given.now))

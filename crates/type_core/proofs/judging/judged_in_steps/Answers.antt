@@ -4,7 +4,7 @@ use Rattle.type_core.specs.declared.judging.Step.TheVariants.{On, Ends}
 use Rattle.type_table.specs.Table.{Table}
 use Rattle.type_core.specs.Judging.{judged_within}
 use Rattle.type_core.proofs.JudgedSteps.{judged-next, judged-none}
-use Rattle.type_core.proofs.judging.judged.Goals as goal
+use Rattle.type_core.proofs.judging.judged_in_steps.Goals as goal
 
 pub loop-step-init : goal.loop-step-init
 loop-step-init c =

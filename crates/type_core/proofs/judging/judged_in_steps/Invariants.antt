@@ -2,7 +2,7 @@
 use Rattle.std.proofs.Common.{◌≡◌, ◌-◌, length}
 use Rattle.snap_core.specs.View.{view}
 use Rattle.type_core.specs.Judging.{judged_by, judged_within}
-use Rattle.type_core.proofs.judging.judged.Given as goal
+use Rattle.type_core.proofs.judging.judged_in_steps.Given as goal
 
 abbrev pub invariant-loop-step : goal.invariant-loop-step
 invariant-loop-step l =
