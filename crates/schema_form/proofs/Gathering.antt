@@ -96,7 +96,7 @@ get-there [] ys x = refl
 get-there (w ∷ xs) ys x = get-there xs ys x
 
 -- what stands at the end of a list stands there in a longer one
-get-behind : {A : Type 0} (xs ys zs : List A) (x : A) → zs ≡ (xs ++ x ∷ []) ++ ys → slice_get zs (length xs) ≡ Some x
+pub get-behind : {A : Type 0} (xs ys zs : List A) (x : A) → zs ≡ (xs ++ x ∷ []) ++ ys → slice_get zs (length xs) ≡ Some x
 get-behind xs ys zs x h = ap (λ ws. slice_get ws (length xs)) h ∙ get-there xs ys x
 
 -- the properties of a model

@@ -44,7 +44,7 @@ AllFrom-append P n m [] ys e h k = let Q : ℕ → Type 0 = λ j. AllFrom P j ys
 AllFrom-append P n m (x ∷ xs) ys e h k = (h.0, AllFrom-append P (n + 1) m xs ys (omega (arith, e)) h.1 k)
 
 -- a known word stands for something
-word-known : (types : Fields) (s : List ℕ) (plain : Option Plain) (entry : Option EntryNo) → plain_of s ≡ plain → entry_of types s ≡ entry → word_faults types s ≡ [] → (w : Word) × (plain_or plain entry ≡ Some w)
+pub word-known : (types : Fields) (s : List ℕ) (plain : Option Plain) (entry : Option EntryNo) → plain_of s ≡ plain → entry_of types s ≡ entry → word_faults types s ≡ [] → (w : Word) × (plain_or plain entry ≡ Some w)
 word-known types s (Some p) entry is at none = (word.Plain p, refl)
 word-known types s None (Some e) is at none = (word.Named e, refl)
 word-known types s None None is at none =
@@ -54,7 +54,7 @@ word-known types s None None is at none =
     absurd (here_some Name (sym faults ∙ none))
 
 -- the entry that a text without a fault names
-entry-known : (types : Fields) (v : Value) → name_faults types v ≡ [] → (e : EntryNo) × (entry_named types v ≡ Some e)
+pub entry-known : (types : Fields) (v : Value) → name_faults types v ≡ [] → (e : EntryNo) × (entry_named types v ≡ Some e)
 entry-known types (text s) none = go (entry_of types s) refl where
   go : (entry : Option EntryNo) → entry_of types s ≡ entry → (e : EntryNo) × (entry_of types s ≡ Some e)
   go (Some e) at = (e, at)

@@ -26,7 +26,7 @@ use Rattle.schema_form.proofs.NoFaults.{append_none, under_none, here_some}
 use Rattle.schema_form.proofs.Whole.{AllFrom, IsGood}
 use Rattle.schema_form.proofs.Gathering.{entry-bound, names-gathered, IsSoFar, gathered-sound}
 
-AllFrom-get : (P : ℕ → Expression → Type 0) (n k : ℕ) (xs : List Expression) (x : Expression) → AllFrom P n xs → slice_get xs k ≡ Some x → P (n + k) x
+pub AllFrom-get : (P : ℕ → Expression → Type 0) (n k : ℕ) (xs : List Expression) (x : Expression) → AllFrom P n xs → slice_get xs k ≡ Some x → P (n + k) x
 AllFrom-get P n k [] x all is = absurd cc
 AllFrom-get P n zero (y ∷ xs) x all is =
     let same : y ≡ x = cc is in
@@ -72,7 +72,7 @@ by_types file ms (Some v) ordered none is =
     types-sound v (IsOrdered-value_at (codes "types") ms v ordered is) (member-none (part_faults (types_of file)) (codes "types") ms v none is)
 
 -- the types of a file without a fault have none, and stand in order
-file-types : (file : Value) → IsOrdered file → file_faults file ≡ [] → (member_faults (entry_faults (types_of file)) (types_of file) ≡ []) × AreOrderedMembers (types_of file)
+pub file-types : (file : Value) → IsOrdered file → file_faults file ≡ [] → (member_faults (entry_faults (types_of file)) (types_of file) ≡ []) × AreOrderedMembers (types_of file)
 file-types (dict a ms) ordered none =
     by_types (dict a ms) ms (value_at (codes "types") ms) ordered
     (append_none (unless (has_key (codes "host") ms && has_key (codes "root") ms && has_key (codes "types") ms) Shape) (member_faults (part_faults (types_of (dict a ms))) ms) none).1 refl

@@ -23,6 +23,7 @@ mod fault;
 mod file;
 mod form;
 mod keys;
+mod laws;
 mod leaves;
 mod models;
 mod names;
@@ -38,4 +39,5 @@ pub use form::{
     Entry, EntryNo, Expression, Expressions, Holder, Kind, ModelForm, Place, Plain, SchemaForm,
     Step, Word,
 };
+pub use laws::{entries_are_types, pointers_lead};
 pub use pointer::{Laid, pointer_to, taken_apart};
