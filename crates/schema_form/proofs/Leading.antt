@@ -1,10 +1,9 @@
 -- Paths that lead further, and numbered expressions in two parts.
-use Rattle.std.proofs.Common.{◌≡◌, ℕ, ◌+◌, List, [], ◌∷◌, ◌++◌, length, Bool, true, Option, Some, None, codes, decimal, if◌then◌else◌, refl, sym, ap, subst, arith}
-use Rattle.std.specs.Str.{bytes_eq}
+use Rattle.std.proofs.Common.{◌≡◌, ℕ, ◌+◌, List, [], ◌∷◌, ◌++◌, length, Bool, Some, None, codes, decimal, if◌then◌else◌, refl, ap, subst, arith}
 use Rattle.std.proofs.lemmas.Fmt.{decimal-digits_value}
 use Rattle.std.proofs.lemmas.Slice.Eq.{bytes_eq-Decides}
 use Rattle.snap_core.specs.Value.{Value, list, dict, part, no_members, member, value_at, Items, Fields}
-use Rattle.snap_core.specs.Level.{Step, at_index, at_key, child, item_at}
+use Rattle.snap_core.specs.Level.{at_index, at_key, item_at}
 use Rattle.pointer_core.specs.Path.{Path}
 use Rattle.pointer_core.proofs.Indices.{digits}
 use Rattle.schema_form.specs.declared.form.Expression.{Expression}

@@ -1,5 +1,5 @@
 -- The entries of a form, and the properties of its models, are read from the values under their names.
-use Rattle.std.proofs.Common.{◌≡◌, ℕ, zero, suc, ◌+◌, ◌<◌, List, [], ◌∷◌, ◌++◌, length, map, Bool, true, false, Option, Some, None, All, codes, slice_get, if◌then◌else◌, refl, sym, ◌∙◌, ap, subst, arith, length-append, append_assoc}
+use Rattle.std.proofs.Common.{◌≡◌, ℕ, suc, ◌+◌, List, [], ◌∷◌, ◌++◌, length, map, Bool, true, false, Option, Some, None, All, codes, slice_get, if◌then◌else◌, refl, sym, ◌∙◌, ap, subst, arith, length-append, append_assoc}
 use Rattle.std.specs.Str.{bytes_eq}
 use Rattle.std.specs.declared.cmp.Ordering.TheVariants.{Less}
 use Rattle.std.proofs.lemmas.Cmp.{nat_list_cmp_total}
@@ -27,10 +27,10 @@ use Rattle.schema_form.specs.declared.entries.Gathered.{Gathered}
 use Rattle.schema_form.specs.Names.{has_key, entry_of}
 use Rattle.schema_form.specs.Faults.{here, unless, under, member_faults, key_faults, is_expression, is_free, property_faults, properties_faults, model_part_faults, model_faults, model_in, formed_faults, entry_faults, type_faults}
 use Rattle.schema_form.specs.Layout.{type_no, type_laid, properties_laid, properties_of, properties_in, with_model, with_type, with_formed, with_entry, with_entries, nothing, gathered}
-use Rattle.schema_form.specs.Pointers.{IsPointer, entry, property, part, entry_path, property_path, places_of}
+use Rattle.schema_form.specs.Pointers.{entry, property, part, entry_path, property_path, places_of}
 use Rattle.schema_form.specs.Reading.{name_at, keyed, IsReadFrom, AreReadUnder, no_property, one_property}
 use Rattle.schema_form.specs.Reading as read
-use Rattle.schema_form.specs.Laws.{PathLeads, IsReadAt, IsReadUnderName}
+use Rattle.schema_form.specs.Laws.{PathLeads, inner_properties, inner_of, IsInside, IsReadAt, IsReadUnderName}
 use Rattle.schema_form.proofs.NoFaults.{append_none, under_none, here_some}
 use Rattle.schema_form.proofs.Orders.{model-ordered}
 use Rattle.schema_form.proofs.Whole.{AllFrom, AllFrom-append}
@@ -78,7 +78,7 @@ stands all xs (y ∷ ys) zs is =
 properties-are : (types : Fields) (key : List ℕ) (v : Value) → model_part_faults types key v ≡ [] → (key ≡ codes "properties") × ((fields : Fields) × (v ≡ dict tt fields))
 properties-are types key v none =
     elim (bytes_eq key (codes "properties")) as (λ b. bytes_eq key (codes "properties") ≡ b → (if b then properties_faults types v else here Shape) ≡ []
-        → (key ≡ codes "properties") × ((fields : Fields) × (v ≡ dict tt fields))) [
+    → (key ≡ codes "properties") × ((fields : Fields) × (v ≡ dict tt fields))) [
       | true ↦ λ h is. ((bytes_eq-Decides key (codes "properties")).0 h, record-of v is)
       | false ↦ λ h is. absurd (here_some Shape is)
     ] refl none
@@ -141,15 +141,14 @@ module _ (f : SchemaForm) (file : Value) (types : Fields) (known : (s : List ℕ
   entry-leads e one v is on n at = record {
     pointer = entry_path one.name;
     is = entry n e one at is;
-    leads = λ path there. go n at path there;
+    only = λ path there. go n at path there;
+    leads = on;
   } where
-    go : (n : ℕ) → slice_get (places_of f.expressions) n ≡ Some (place.Entry e) → (path : Path) → IsPointerTo f file types known n path → PathLeads file path v
+    go : (n : ℕ) → slice_get (places_of f.expressions) n ≡ Some (place.Entry e) → (path : Path) → IsPointerTo f file types known n path → path ≡ entry_path one.name
     go _ at _ (entry t d other there was) =
         let same : place.Entry d ≡ place.Entry e = same_Some _ _ (sym there ∙ at) in
         let numbers : d ≡ e = cc in
-        let ones : other ≡ one = same_Some other one (sym was ∙ ap (λ (x : EntryNo). slice_get f.entries x.0) numbers ∙ is) in
-        let P : Entry → Type 0 = λ x. PathLeads file (entry_path x.name) v in
-        subst P (sym ones) on
+        ap (λ (x : Entry). entry_path x.name) (same_Some other one (sym was ∙ ap (λ (x : EntryNo). slice_get f.entries x.0) numbers ∙ is))
     go _ at _ (property t m i model p there was lies) = let same : place.Property m i ≡ place.Entry e = same_Some _ _ (sym there ∙ at) in cc
     go _ at _ (part t u step path there up) = let same : place.Part u step ≡ place.Entry e = same_Some _ _ (sym there ∙ at) in cc
 
@@ -159,9 +158,10 @@ module _ (f : SchemaForm) (file : Value) (types : Fields) (known : (s : List ℕ
   property-leads m i its p v is lies on n at = record {
     pointer = entry_path its.name ++ property_path p.name;
     is = property n m i its p at is lies;
-    leads = λ path there. go n at path there;
+    only = λ path there. go n at path there;
+    leads = on;
   } where
-    go : (n : ℕ) → slice_get (places_of f.expressions) n ≡ Some (place.Property m i) → (path : Path) → IsPointerTo f file types known n path → PathLeads file path v
+    go : (n : ℕ) → slice_get (places_of f.expressions) n ≡ Some (place.Property m i) → (path : Path) → IsPointerTo f file types known n path → path ≡ entry_path its.name ++ property_path p.name
     go _ at _ (entry t d other there was) = let same : place.Entry d ≡ place.Property m i = same_Some _ _ (sym there ∙ at) in cc
     go _ at _ (property t k j model q there was stand) =
         let same : place.Property k j ≡ place.Property m i = same_Some _ _ (sym there ∙ at) in
@@ -169,10 +169,7 @@ module _ (f : SchemaForm) (file : Value) (types : Fields) (known : (s : List ℕ
         let indices : j ≡ i = cc in
         let models : model ≡ its = same_Some model its (sym was ∙ ap (λ (x : ModelNo). slice_get f.models x.0) numbers ∙ is) in
         let theirs : slice_get model.properties j ≡ Some p = ap (λ (x : ModelForm). slice_get x.properties j) models ∙ ap (λ x. slice_get its.properties x) indices ∙ lies in
-        let ones : q ≡ p = same_Some q p (sym stand ∙ theirs) in
-        let P : ModelForm → Type 0 = λ x. PathLeads file (entry_path x.name ++ property_path q.name) v in
-        let Q : Property → Type 0 = λ x. PathLeads file (entry_path its.name ++ property_path x.name) v in
-        subst P (sym models) (subst Q (sym ones) on)
+        ap (λ (x : ModelForm). entry_path x.name ++ property_path q.name) models ∙ ap (λ (x : Property). entry_path its.name ++ property_path x.name) (same_Some q p (sym stand ∙ theirs))
     go _ at _ (part t u step path there up) = let same : place.Part u step ≡ place.Property m i = same_Some _ _ (sym there ∙ at) in cc
 
   -- the value of a model with some properties
@@ -185,29 +182,38 @@ module _ (f : SchemaForm) (file : Value) (types : Fields) (known : (s : List ℕ
       PathLeads-append (model_value all) inside v (codes "model" ∷ []) (codes "properties" ∷ key ∷ []) (PathLeads-keyed (codes "model") inside)
       (PathLeads-append inside (dict tt all) v (codes "properties" ∷ []) (key ∷ []) (PathLeads-keyed (codes "properties") (dict tt all)) (PathLeads-field tt key all v there))
 
+  -- the properties are read from the values under their names, and their pointers go on from that of the model
+  record AreProperties (m : ModelNo) (its : ModelForm) (i : ℕ) (ps : Fields) (n : ℕ) : Type 0 where
+    read : AreReadUnder f (properties_of types m i ps n) ps
+    each : AreReadAt f file types known n (properties_laid types m i ps n)
+    inside : All (IsInside f (entry_path its.name)) (map (λ (p : Property). (property_path p.name, p.of)) (properties_of types m i ps n))
+
   read-properties : (m : ModelNo) (its : ModelForm) (all : Fields) → slice_get f.models m.0 ≡ Some its → PathLeads file (entry_path its.name) (model_value all)
       → (i : ℕ) (ps : Fields) (n : ℕ) → AreKeyed ps → AreAmong ps all → ((j : ℕ) (p : Property) → slice_get (properties_of types m i ps n) j ≡ Some p → slice_get its.properties (i + j) ≡ Some p)
-      → member_faults (property_faults types) ps ≡ [] → Stand f file types known n (properties_laid types m i ps n)
-      → AreReadUnder f (properties_of types m i ps n) ps × AreReadAt f file types known n (properties_laid types m i ps n)
-  read-properties m its all is on i no_members n keyed' among its-own none stand = (no_property, tt)
-  read-properties m its all is on i (member k v ps) n keyed' among its-own none stand =
+      → member_faults (property_faults types) ps ≡ [] → Stand f file types known n (properties_laid types m i ps n) → AreProperties m its i ps n
+  read-properties m its all is on i no_members n sorted among own none stand = record { read = no_property; each = tt; inside = All-nil (IsInside f (entry_path its.name)) }
+  read-properties m its all is on i (member k v ps) n sorted among own none stand =
       let at : Place = place.Property m i in
       let first : List Expression = type_laid types v n at in
-      let rest : List Expression = properties_laid types m (i + 1) ps (n + length first) in
+      let next : ℕ = n + length first in
+      let rest : List Expression = properties_laid types m (i + 1) ps next in
+      let others : List Property = properties_of types m (i + 1) ps next in
       let p : Property = record { name = k; of = type_no n } in
       let parts = append_none (under k (property_faults types k v)) (member_faults (property_faults types) ps) none in
-      let one-none : type_faults types v ≡ [] = (append_none (key_faults (is_expression v) (is_name k)) (type_faults types v) (under_none k (property_faults types k v) parts.0)).1 in
+      let faultless : type_faults types v ≡ [] = (append_none (key_faults (is_expression v) (is_name k)) (type_faults types v) (under_none k (property_faults types k v) parts.0)).1 in
       let two = AllFrom-split (λ j e. slice_get f.expressions j ≡ Some e) n first rest stand in
-      let lies : slice_get its.properties i ≡ Some p = let P : ℕ → Type 0 = λ j. slice_get its.properties j ≡ Some p in let same : i + 0 ≡ i = omega arith in subst P same (its-own 0 p refl) in
+      let lies : slice_get its.properties i ≡ Some p = let P : ℕ → Type 0 = λ j. slice_get its.properties j ≡ Some p in let same : i + 0 ≡ i = omega arith in subst P same (own 0 p refl) in
       let path : PathLeads file (entry_path its.name ++ property_path k) v =
       PathLeads-append file (model_value all) v (entry_path its.name) (property_path k) on (property-path-leads all k v (first-among all k v ps among)) in
-      let one = read-type f file types known v one-none n at two.0 (property-leads m i its p v is lies path) in
-      let further = read-properties m its all is on (i + 1) ps (n + length first) keyed'.1 (rest-among all k v ps keyed' among)
-      (λ j q there. let P : ℕ → Type 0 = λ x. slice_get its.properties x ≡ Some q in let same : i + suc j ≡ i + 1 + j = omega arith in subst P same (its-own (suc j) q there))
-      parts.1 two.1 in (
-        one_property p (properties_of types m (i + 1) ps (n + length first)) v ps one.0 further.0,
-        AllFrom-append (λ j e. IsReadAt file f j) n (n + length first) first rest refl one.1 further.1,
-      )
+      let one = read-type f file types known v faultless n at two.0 (property-leads m i its p v is lies path) in
+      let further = read-properties m its all is on (i + 1) ps next sorted.1 (rest-among all k v ps sorted among)
+      (λ j q there. let P : ℕ → Type 0 = λ x. slice_get its.properties x ≡ Some q in let same : i + suc j ≡ i + 1 + j = omega arith in subst P same (own (suc j) q there))
+      parts.1 two.1 in record {
+        read = one_property p others v ps one.first further.read;
+        each = AllFrom-append (λ j e. IsReadAt file f j) n next first rest refl one.each further.each;
+        inside = All-cons (IsInside f (entry_path its.name)) (property_path k, type_no n) (map (λ (q : Property). (property_path q.name, q.of)) others)
+            (property n m i its p one.place is lies) further.inside;
+      }
 
   abbrev final : Gathered
   final = record { entries = f.entries; expressions = f.expressions; models = f.models }
@@ -218,14 +224,14 @@ module _ (f : SchemaForm) (file : Value) (types : Fields) (known : (s : List ℕ
     pub entries : All (IsReadUnderName types f) g.entries
 
   add-entry : (g : Gathered) (k : List ℕ) (v : Value) (xs : List Expression) → IsReadSoFar g → value_at k types ≡ Some v
-      → IsReadFrom f (length g.expressions) v × AreReadAt f file types known (length g.expressions) xs
+      → IsPointerTo f file types known (length g.expressions) (entry_path k) → IsReadFrom f (length g.expressions) v → AreReadAt f file types known (length g.expressions) xs
       → AreReadAt f file types known 0 (g.expressions ++ xs) × All (IsReadUnderName types f) (g.entries ++ record { name = k; of = type_no (length g.expressions) } ∷ [])
-  add-entry g k v xs so_far there reads =
+  add-entry g k v xs so_far there is reads each =
       let n : ℕ = length g.expressions in
       let one : Entry = record { name = k; of = type_no n } in (
-        AllFrom-append (λ j e. IsReadAt file f j) 0 n g.expressions xs (omega arith) so_far.expressions reads.1,
+        AllFrom-append (λ j e. IsReadAt file f j) 0 n g.expressions xs (omega arith) so_far.expressions each,
         All-append (IsReadUnderName types f) g.entries (one ∷ []) so_far.entries
-            (All-cons (IsReadUnderName types f) one [] (record { value = v; there = there; read = reads.0 }) (All-nil (IsReadUnderName types f))),
+            (All-cons (IsReadUnderName types f) one [] (record { value = v; there = there; is = is; read = reads }) (All-nil (IsReadUnderName types f))),
       )
 
   read-with-type : (g : Gathered) (k : List ℕ) (v : Value) → IsReadSoFar g → value_at k types ≡ Some v → type_faults types v ≡ [] → Grows (with_type types g k v) final → IsReadSoFar (with_type types g k v)
@@ -236,12 +242,13 @@ module _ (f : SchemaForm) (file : Value) (types : Fields) (known : (s : List ℕ
       let xs : List Expression = type_laid types v n (place.Entry e) in
       let stand = stands f.expressions g.expressions xs grows.expressions.0 (grows.expressions.1 ∙ append_assoc g.expressions xs grows.expressions.0) in
       let is : slice_get f.entries (length g.entries) ≡ Some one = get-behind g.entries grows.entries.0 f.entries one grows.entries.1 in
-      let added = add-entry g k v xs so_far there (read-type f file types known v none n (place.Entry e) stand (entry-leads e one v is (start k v there))) in
+      let laid = read-type f file types known v none n (place.Entry e) stand (entry-leads e one v is (start k v there)) in
+      let added = add-entry g k v xs so_far there (entry n e one laid.place is) laid.first laid.each in
       record { expressions = added.0; entries = added.1 }
 
   read-with-model : (g : Gathered) (k : List ℕ) (ps : Fields) → IsReadSoFar g → value_at k types ≡ Some (model_value ps) → member_faults (property_faults types) ps ≡ [] → AreKeyed ps
       → Grows (with_model types g k ps) final → IsReadSoFar (with_model types g k ps)
-  read-with-model g k ps so_far there none keyed' grows =
+  read-with-model g k ps so_far there none sorted grows =
       let n : ℕ = length g.expressions in
       let e : EntryNo = record { 0 = length g.entries } in
       let m : ModelNo = record { 0 = length g.models } in
@@ -253,11 +260,17 @@ module _ (f : SchemaForm) (file : Value) (types : Fields) (known : (s : List ℕ
       let stand = stands f.expressions g.expressions xs grows.expressions.0 (grows.expressions.1 ∙ append_assoc g.expressions xs grows.expressions.0) in
       let is : slice_get f.entries (length g.entries) ≡ Some one = get-behind g.entries grows.entries.0 f.entries one grows.entries.1 in
       let model : slice_get f.models m.0 ≡ Some its = get-behind g.models grows.models.0 f.models its grows.models.1 in
-      let has : HasPlace f file types known n v = entry-leads e one v is (start k v there) n (placed f file types known n own stand.0) in
-      let properties = read-properties m its ps model (start k v there) 0 ps (n + 1) keyed' (λ key w at. at)
+      let at : slice_get (places_of f.expressions) n ≡ Some (place.Entry e) = placed f file types known n own stand.0 in
+      let has : HasPlace f file types known n v = entry-leads e one v is (start k v there) n at in
+      let pointer : IsPointerTo f file types known n (entry_path k) = entry n e one at is in
+      let properties = read-properties m its ps model (start k v there) 0 ps (n + 1) sorted (λ key w at. at)
       (λ j p at. let P : ℕ → Type 0 = λ x. slice_get its.properties x ≡ Some p in let same : j ≡ 0 + j = omega arith in subst P same at) none stand.1 in
-      let reads : IsReadFrom f n v = read.model n m its ps (kind-is f file types known n own stand.0) model properties.0 in
-      let added = add-entry g k v xs so_far there (reads, (read-at f file types known n v has reads, properties.1)) in
+      let says = kind-is f file types known n own stand.0 in
+      let reads : IsReadFrom f n v = read.model n m its ps says model properties.read in
+      let P : Path → Type 0 = λ path. All (IsInside f path) (inner_properties (Some its)) in
+      let Q : Option ModelForm → Type 0 = λ o. All (IsInside f has.pointer) (inner_properties o) in
+      let inside : All (IsInside f has.pointer) (inner_of f (kind.Model m)) = subst Q (sym model) (subst P (has.only (entry_path k) pointer) properties.inside) in
+      let added = add-entry g k v xs so_far there pointer reads (read-at f file types known n v (kind.Model m) has reads says inside, properties.each) in
       record { expressions = added.0; entries = added.1 }
 
   read-with-formed : (g : Gathered) (k : List ℕ) (v : Value) (o : Option Value) → model_in v ≡ o → IsReadSoFar g → value_at k types ≡ Some v → IsOrdered v → formed_faults types k v o ≡ []

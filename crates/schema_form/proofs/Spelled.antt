@@ -1,5 +1,5 @@
 -- Words, texts and conditions are spelled by what they are read from.
-use Rattle.std.proofs.Common.{◌≡◌, ℕ, ◌+◌, ℤ, List, [], ◌∷◌, ◌++◌, Bool, true, false, is_some, Option, Some, None, codes, decimal, if◌then◌else◌, refl, sym, ◌∙◌, ap, subst}
+use Rattle.std.proofs.Common.{◌≡◌, ℕ, ◌+◌, ℤ, List, [], ◌∷◌, ◌++◌, true, false, is_some, Option, Some, None, codes, decimal, if◌then◌else◌, refl, sym, ◌∙◌, ap, subst}
 use Rattle.std.specs.Str.{bytes_eq}
 use Rattle.std.specs.Prelude.{not}
 use Rattle.std.proofs.lemmas.Slice.Eq.{bytes_eq-Decides}
@@ -14,11 +14,11 @@ use Rattle.schema_form.specs.declared.words.Form.TheVariants as form
 use Rattle.schema_form.specs.declared.bases.Base.{Base}
 use Rattle.schema_form.specs.declared.bases.Base.TheVariants.{Texts, Integers}
 use Rattle.schema_form.specs.Words.{form_of}
-use Rattle.schema_form.specs.Faults.{here, unless, under, is_among, texts_faults, bound, condition_of, condition_faults, member_faults}
+use Rattle.schema_form.specs.Faults.{unless, under, is_among, texts_faults, bound, condition_of, condition_faults, member_faults}
 use Rattle.schema_form.specs.Layout.{texts_in, one_of, conditions_in}
 use Rattle.schema_form.specs.Pointers.{holder_key}
 use Rattle.schema_form.specs.Reading.{text_items, condition_key, condition_value, condition_fields}
-use Rattle.schema_form.proofs.NoFaults.{append_none, under_none, unless_none, here_some}
+use Rattle.schema_form.proofs.NoFaults.{append_none, under_none, here_some}
 
 -- the key of a form
 abbrev pub form_key : Form → List ℕ

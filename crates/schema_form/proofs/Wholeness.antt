@@ -1,5 +1,5 @@
 -- The form of a file without a fault is whole.
-use Rattle.std.proofs.Common.{◌≡◌, ℕ, zero, suc, ◌+◌, ◌<◌, List, [], ◌∷◌, ◌++◌, length, map, Bool, true, false, Option, Some, None, All, codes, slice_get, option_map, if◌then◌else◌, refl, sym, ◌∙◌, ap, subst, arith}
+use Rattle.std.proofs.Common.{◌≡◌, ℕ, zero, suc, ◌+◌, ◌<◌, List, [], ◌∷◌, length, map, true, false, Option, Some, None, All, codes, slice_get, option_map, if◌then◌else◌, refl, sym, ◌∙◌, ap, subst, arith}
 use Rattle.std.specs.Prelude.{◌&&◌}
 use Rattle.std.specs.Str.{bytes_eq}
 use Rattle.std.proofs.lemmas.List.{length-map}
@@ -13,15 +13,14 @@ use Rattle.schema_form.specs.declared.fault.Fault.{Fault}
 use Rattle.schema_form.specs.declared.form.SchemaForm.{SchemaForm}
 use Rattle.schema_form.specs.declared.form.EntryNo.{EntryNo}
 use Rattle.schema_form.specs.declared.form.Entry.{Entry}
-use Rattle.schema_form.specs.declared.form.ModelForm.{ModelForm}
 use Rattle.schema_form.specs.declared.form.Expression.{Expression}
 use Rattle.schema_form.specs.declared.form.Place.{Place}
 use Rattle.schema_form.specs.declared.entries.Gathered.{Gathered}
 use Rattle.schema_form.specs.Names.{has_key, entry_of}
-use Rattle.schema_form.specs.Faults.{here, unless, under, member_faults, entry_faults, types_faults, part_faults, file_faults, entries, entries_in, types_of}
-use Rattle.schema_form.specs.Layout.{entry_named, nothing, gathered}
-use Rattle.schema_form.specs.Pointers.{IsPlaceAmong, places_of}
-use Rattle.schema_form.specs.Form.{root_in, root_of, IsForm, IsWhole, IsModelIn}
+use Rattle.schema_form.specs.Faults.{unless, under, member_faults, entry_faults, types_faults, part_faults, file_faults, entries, entries_in, types_of}
+use Rattle.schema_form.specs.Layout.{nothing}
+use Rattle.schema_form.specs.Pointers.{IsPlaceAmong}
+use Rattle.schema_form.specs.Form.{root_in, IsForm, IsWhole, IsModelIn}
 use Rattle.schema_form.proofs.NoFaults.{append_none, under_none, here_some}
 use Rattle.schema_form.proofs.Whole.{AllFrom, IsGood}
 use Rattle.schema_form.proofs.Gathering.{entry-bound, names-gathered, IsSoFar, gathered-sound}
