@@ -7,8 +7,8 @@ use Rattle.snap_core.specs.Name.{is_name}
 use Rattle.snap_core.specs.Value.{Value, null, boolean, integer, text, list, dict, no_members, member, IsOrdered, AreOrderedMembers, AreAscending, keys_of, Fields}
 use Rattle.snap_core.specs.declared.number.ModelNo.{ModelNo}
 use Rattle.snap_core.proofs.Keys.{AreKeyed-ordered}
-use Rattle.type_core.specs.declared.shape.Property.{Property}
-use Rattle.type_core.specs.Table.{names_of, AreNamed, AreTyped}
+use Rattle.type_table.specs.declared.shape.Property.{Property}
+use Rattle.type_table.specs.Table.{names_of, AreNamed, AreTyped}
 use Rattle.pointer_core.specs.declared.schema_rule.SchemaRule.TheVariants.{Shape}
 use Rattle.schema_form.specs.declared.fault.Fault.{Fault}
 use Rattle.schema_form.specs.declared.form.SchemaForm.{SchemaForm}

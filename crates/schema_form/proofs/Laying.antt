@@ -11,8 +11,8 @@ use Rattle.snap_core.specs.declared.number.ModelNo.{ModelNo}
 use Rattle.snap_core.specs.View.{view, items_view, fields_view}
 use Rattle.snap_core.specs.Unview.{snap_of}
 use Rattle.snap_core.proofs.Views.{entry-fields, snap_of-view}
-use Rattle.type_core.specs.declared.shape.Property.{Property}
-use Rattle.type_core.specs.declared.shape.Condition.{Condition}
+use Rattle.type_table.specs.declared.shape.Property.{Property}
+use Rattle.type_table.specs.declared.shape.Condition.{Condition}
 use Rattle.schema_form.specs.declared.form.Word.{Word}
 use Rattle.schema_form.specs.declared.bases.Base.{Base}
 use Rattle.schema_form.specs.Names.{word_in}

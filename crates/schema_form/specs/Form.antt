@@ -3,7 +3,7 @@ use Rattle.std.specs.Prelude.{◌≡◌, ℕ, ◌<◌, ℤ, pos, List, [], ◌�
 use Rattle.snap_core.specs.Value.{Value, integer, text, value_at, IsPlain, AreAscending}
 use Rattle.snap_core.specs.View.{view}
 use Rattle.snap_core.specs.declared.number.TypeNo.{TypeNo}
-use Rattle.type_core.specs.Table.{AreNamed, AreTyped}
+use Rattle.type_table.specs.Table.{AreNamed, AreTyped}
 use Rattle.schema_form.specs.declared.form.SchemaForm.{SchemaForm}
 use Rattle.schema_form.specs.declared.form.Entry.{Entry}
 use Rattle.schema_form.specs.declared.form.EntryNo.{EntryNo}

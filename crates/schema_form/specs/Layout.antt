@@ -5,8 +5,8 @@ use Rattle.snap_core.specs.Value.{Value, text, list, dict, no_parts, part, no_me
 use Rattle.snap_core.specs.Unview.{snap_of}
 use Rattle.snap_core.specs.declared.number.TypeNo.{TypeNo}
 use Rattle.snap_core.specs.declared.number.ModelNo.{ModelNo}
-use Rattle.type_core.specs.declared.shape.Condition.{Condition}
-use Rattle.type_core.specs.declared.shape.Property.{Property}
+use Rattle.type_table.specs.declared.shape.Condition.{Condition}
+use Rattle.type_table.specs.declared.shape.Property.{Property}
 use Rattle.schema_form.specs.declared.form.Expression.{Expression}
 use Rattle.schema_form.specs.declared.form.EntryNo.{EntryNo}
 use Rattle.schema_form.specs.declared.entries.Gathered.{Gathered}

@@ -15,14 +15,12 @@ ghost use Rattle.type_core.specs.declared.making.MakeError.TheVariants.{Memory};
 use crate::judging::judged;
 use crate::limits::fits;
 use crate::records::{make_absent, make_entries, make_items, make_properties};
-use crate::scalars::takes;
-use crate::shape::{Condition, Shape};
-use crate::tagged::Tagged;
 use crate::types::Types;
 use pointer_core::{Pointer, Refusal, Rule};
 use snap_core::{Field, Snap, TypeNo};
 use std::alloc::{AllocError, Global};
 use thiserror::Error;
+use type_table::{Condition, Shape, Tagged, takes};
 
 /// The greatest weight of a value that is made.
 const MOST_WEIGHT: u32 = 1_048_576;
