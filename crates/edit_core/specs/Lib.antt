@@ -13,3 +13,6 @@ pub mod Around
 pub mod Numbers
 pub mod Labelling
 pub mod Rules
+pub mod Logged
+pub mod LoggedBetween
+pub mod Ways

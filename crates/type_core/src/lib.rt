@@ -20,6 +20,7 @@ mod followed;
 mod judging;
 mod limits;
 mod making;
+mod parts;
 mod records;
 mod sameness;
 mod seen;
