@@ -17,3 +17,4 @@ pub mod Chars
 pub mod Finding
 pub mod SeenKeys
 pub mod Examples
+pub mod KeyedMaking

@@ -30,7 +30,7 @@ pub use doubling::doubled;
 pub use followed::Followed;
 pub use judging::judged;
 pub use limits::fits;
-pub use making::{MakeError, make, make_value};
+pub use making::{MakeError, make, make_entry, make_value};
 pub use sameness::types_are_one;
 pub use type_table::{
     Condition, Conditions, Members, ModelType, Properties, Property, Shape, Texts,

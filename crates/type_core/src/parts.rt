@@ -11,7 +11,7 @@ ghost use Rattle.type_core.specs.Judging.{judged_by};
 use crate::judging::judged;
 use crate::types::Types;
 use snap_core::{ModelNo, Name, Snap, TypeNo};
-use type_table::{Property, Shape, identifier_of};
+use type_table::{Property, Shape};
 
 impl Types {
     /// How many types there are.
@@ -47,7 +47,7 @@ impl Types {
         ensures { option_copied result ≡ option_map (λ p. p.name) (identifier_of self.now.table m.0) }
     {
         let (types, _) = self.inside();
-        match identifier_of(types.table(), m) {
+        match types.table().identifier(m) {
             Some(property) => Some(&property.name),
             None => None,
         }
