@@ -9,3 +9,4 @@ pub mod Making
 pub mod Evaluating
 pub mod Asking
 pub mod Seen
+pub mod Pairing
