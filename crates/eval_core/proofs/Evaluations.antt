@@ -5,11 +5,10 @@ use Rattle.std.specs.Str.{bytes_eq}
 use Rattle.snap_core.specs.Value.{Value, null, boolean}
 use Rattle.snap_core.specs.declared.number.NodeNo.{NodeNo}
 use Rattle.pointer_core.specs.declared.refusal.Rule.{Rule}
-use Rattle.pointer_core.specs.declared.refusal.Rule
-use Rattle.expr_syntax.specs.Syntax.{Expression, Expressions, Members, Telling, Walk, collect, keys, items, snapshot, path, constant, variable, own, get, ref, one_sided, two_sided, telling, walk, both, either, choice, bind, list, make, find, is, no_more, more, no_members, member}
+use Rattle.expr_syntax.specs.Syntax.{Expression, Expressions, Members, Telling, collect, keys, items, snapshot, path, constant, variable, own, get, ref, one_sided, two_sided, telling, walk, both, either, choice, bind, list, make, find, is, no_more, more, no_members, member}
 use Rattle.eval_core.specs.Answer.{Answer, Answers, plain, several, no_answers, answer}
-use Rattle.eval_core.specs.Run.{Eval, counts, andthen}
-use Rattle.eval_core.specs.Scope.{Scope, Env, bound_in, gives}
+use Rattle.eval_core.specs.Run.{Eval, andthen}
+use Rattle.eval_core.specs.Scope.{Env, bound_in}
 use Rattle.eval_core.specs.Operating.{truth_in}
 use Rattle.eval_core.specs.Walking.{Item, start}
 use Rattle.eval_core.specs.Making.{Made}

@@ -1,19 +1,11 @@
 -- Evaluating, computed on examples: an office with todos and users.
-use Rattle.std.proofs.Common.{◌≡◌, ℕ, List, [], ◌∷◌, Result, Ok, Err, true, false, Some, None, pos, refl}
+use Rattle.std.proofs.Common.{◌≡◌, [], ◌∷◌, Ok, pos, refl}
 use Rattle.std.specs.Prelude.{codes}
-use Rattle.snap_core.specs.Value.{Value, null, boolean, integer, text, no_members, member, Fields}
-use Rattle.snap_core.specs.declared.ident.Ident
-use Rattle.snap_core.specs.declared.ident.Ident.{Ident}
-use Rattle.pointer_core.specs.declared.refusal.Rule
-use Rattle.pointer_core.specs.declared.refusal.Rule.{Rule}
-use Rattle.eval_core.specs.declared.cell.Cell.{Cell}
-use Rattle.eval_core.specs.declared.cell.Cell
-use Rattle.eval_core.specs.declared.site.Site.{Site}
-use Rattle.eval_core.specs.declared.site.Site
-use Rattle.eval_core.specs.Answer.{Answer, plain, node, several}
-use Rattle.eval_core.specs.Run.{Run, Fault, Entered, Eval, lift, looks, counts, joined, ended, andthen, enters}
+use Rattle.snap_core.specs.Value.{Value, null, integer, text, no_members, member}
+use Rattle.eval_core.specs.Answer.{Answer, plain}
+use Rattle.eval_core.specs.Run.{Run, lift, looks, counts, joined, ended, andthen, enters}
 use Rattle.eval_core.specs.Asking.{view_run}
-use Rattle.eval_core.proofs.Office.{model, number, view_no, viewing, sight, office, user, todo, height_body, pending_body, focused_body}
+use Rattle.eval_core.proofs.Office.{number, view_no, viewing, sight, office, user, height_body}
 
 -- Two users, u1 without a boss and u2 whose boss is u1. The nodes: 0 the office, 1 the team, 2 the todos, 3 the users,
 -- 4 u1 and 5 u2.

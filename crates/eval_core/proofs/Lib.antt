@@ -6,3 +6,5 @@ pub mod Operators
 pub mod Walks
 pub mod Makings
 pub mod Evaluations
+pub mod Agreeing
+pub mod Deepening

@@ -1,14 +1,12 @@
 -- Records that are made, and snapshots, keep the relation.
-use Rattle.std.proofs.Common.{◌≡◌, ℕ, List, [], ◌∷◌, Option, Some, None, Result, Ok, Err, refl, sym, ap, ◌∙◌, subst}
+use Rattle.std.proofs.Common.{◌≡◌, List, [], ◌∷◌, Result, Ok, Err, refl, ap, ◌∙◌, subst}
 use Rattle.std.specs.Prelude.{IfOk}
 use Rattle.snap_core.specs.Value.{Value, list, Items, Fields, no_parts, part, no_members}
 use Rattle.snap_core.specs.declared.number.NodeNo.{NodeNo}
 use Rattle.pointer_core.specs.declared.refusal.Rule.{Rule}
 use Rattle.eval_core.specs.Answer.{Answer, Answers, plain, node, several, no_answers, answer}
-use Rattle.eval_core.specs.Sight.{Sight}
-use Rattle.eval_core.specs.Run.{andthen}
 use Rattle.eval_core.specs.Scope.{judged}
-use Rattle.eval_core.specs.Making.{node_made, part_made, list_made, made_value, made_values, Made, with_field, field_made, fields_made, as_record, record_made, snapshot_of, snapshots_of}
+use Rattle.eval_core.specs.Making.{node_made, list_made, made_value, made_values, Made, with_field, field_made, fields_made, as_record, record_made, snapshot_of, snapshots_of}
 use Rattle.eval_core.specs.Pairing.{Pairing, left_scope, right_scope, InAnswer, InAnswers, Anything}
 use Rattle.eval_core.proofs.Steps
 use Rattle.eval_core.proofs.Steps.{judging, kinds}

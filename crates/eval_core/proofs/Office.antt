@@ -1,5 +1,5 @@
 -- An office with users and todos, and its views, for examples.
-use Rattle.std.proofs.Common.{◌≡◌, ℕ, List, [], ◌∷◌, Bool, true, false, Option, Some, None, pos, refl}
+use Rattle.std.proofs.Common.{ℕ, List, [], ◌∷◌, Bool, true, false, Option, Some, None, pos}
 use Rattle.std.specs.Prelude.{codes, ◌==◌, if◌then◌else◌}
 use Rattle.std.specs.Str.{bytes_eq}
 use Rattle.snap_core.specs.Value.{Value, null, boolean, integer, text, list, dict, no_parts, part, no_members, member, Items, Fields}
@@ -12,7 +12,6 @@ use Rattle.edit_core.specs.Typing.{Typing}
 use Rattle.edit_core.specs.Matching.{by_first}
 use Rattle.edit_core.specs.Template.{template, numbered}
 use Rattle.expr_syntax.specs.declared.number.ViewNo.{ViewNo}
-use Rattle.expr_syntax.specs.declared.op.Op.{Op}
 use Rattle.expr_syntax.specs.declared.op.Op.TheVariants.{Add, Eq, Size, Not}
 use Rattle.expr_syntax.specs.Syntax.{Expression, filter, constant, variable, own, get, one_sided, two_sided, walk, choice}
 use Rattle.eval_core.specs.Sight.{Sight}

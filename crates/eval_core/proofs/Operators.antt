@@ -1,12 +1,11 @@
 -- Operators on answers keep the relation.
-use Rattle.std.proofs.Common.{◌≡◌, ℕ, zero, suc, Bool, true, false, Option, Some, None, Result, Ok, Err, if◌then◌else◌, refl, subst}
+use Rattle.std.proofs.Common.{ℕ, zero, suc, Bool, true, false, Option, Some, None, Result, Ok, Err, if◌then◌else◌}
 use Rattle.std.specs.Prelude.{IfOk}
-use Rattle.snap_core.specs.Value.{Value, null, boolean, integer, text, list, dict}
+use Rattle.snap_core.specs.Value.{Value, integer}
 use Rattle.snap_core.specs.declared.number.NodeNo.{NodeNo}
 use Rattle.pointer_core.specs.declared.refusal.Rule.{Rule}
-use Rattle.pointer_core.specs.declared.refusal.Rule
 use Rattle.expr_syntax.specs.declared.op.Op.{Op}
-use Rattle.expr_syntax.specs.declared.op.Op.TheVariants.{Add, Sub, Mul, Div, Mod, Concat, Text, Eq, Lt, Not, Item, Has, Size}
+use Rattle.expr_syntax.specs.declared.op.Op.TheVariants.{Eq, Item, Has, Size}
 use Rattle.plain_ops.specs.Applied.{applied, index_in}
 use Rattle.eval_core.specs.Answer.{Answer, Answers, plain, node, several, no_answers, answer, answer_at}
 use Rattle.eval_core.specs.Operating.{as_plain, on_plain, one_of, answer_under, or_index, operated_on, in_bounds}

@@ -1,26 +1,21 @@
 -- What forms read of nodes keeps the relation.
-use Rattle.std.proofs.Common.{◌≡◌, ℕ, zero, suc, List, [], ◌∷◌, length, Bool, true, false, Option, Some, None, Result, Ok, Err, if◌then◌else◌, refl, subst}
-use Rattle.std.specs.Prelude.{IfOk, unwrap_or, pos, is_some}
+use Rattle.std.proofs.Common.{◌≡◌, ℕ, zero, suc, List, [], ◌∷◌, length, Bool, true, false, Option, Some, None, if◌then◌else◌, refl, subst}
+use Rattle.std.specs.Prelude.{unwrap_or, pos, is_some}
 use Rattle.std.specs.Str.{bytes_eq}
-use Rattle.snap_core.specs.Value.{Value, null, boolean, integer, text, list, dict, value_at, keys_of}
+use Rattle.snap_core.specs.Value.{Value, null, boolean, integer, text, dict, value_at, keys_of}
 use Rattle.snap_core.specs.declared.number.ModelNo.{ModelNo}
 use Rattle.snap_core.specs.declared.number.NodeNo.{NodeNo}
 use Rattle.snap_core.specs.declared.ident.Ident.{Ident}
-use Rattle.snap_core.specs.declared.ident.Ident
 use Rattle.pointer_core.specs.Path.{Path, printed}
 use Rattle.pointer_core.specs.declared.refusal.Rule.{Rule}
-use Rattle.pointer_core.specs.declared.refusal.Rule
 use Rattle.edit_core.specs.declared.kind.Kind.{Kind}
 use Rattle.edit_core.specs.declared.kind.Kind.TheVariants.{Model, Array, Map}
 use Rattle.plain_ops.specs.Applied.{index_in}
-use Rattle.eval_core.specs.declared.cell.Cell.{Cell}
-use Rattle.eval_core.specs.declared.cell.Cell
 use Rattle.eval_core.specs.declared.site.Site.{Site}
-use Rattle.eval_core.specs.declared.site.Site
-use Rattle.eval_core.specs.Answer.{Answer, Answers, plain, node, several, no_answers, answer}
-use Rattle.eval_core.specs.Sight.{Sight, Being, Link, Held, holds, stands, refers, Entry}
-use Rattle.eval_core.specs.Run.{Eval, looks, andthen}
-use Rattle.eval_core.specs.Scope.{Member, property, view, Scope, gives, refused}
+use Rattle.eval_core.specs.Answer.{Answer, plain, node, several}
+use Rattle.eval_core.specs.Sight.{Link, Held, holds, stands, refers, Entry}
+use Rattle.eval_core.specs.Run.{Eval}
+use Rattle.eval_core.specs.Scope.{Member, property, view, gives, refused}
 use Rattle.eval_core.specs.Reading
 use Rattle.eval_core.specs.Reading.{reached, referred, held_answer, prop_answer, prop_identifier, of_prop, of_member, of_reference, got_of_kind, ref_of_kind, got, ref_got, own_got, entry_answer, entry_at, entry_index, entry_under, of_level, item_of_kind, has_of_kind, size_of_kind, texts, tokens, keys_of_kind, keys_got, path_got, node_or_null, known_got, find_got, is_got, ident_value}
 use Rattle.eval_core.specs.Pairing.{Pairing, left_scope, right_scope, InAnswer, InAnswers, InHeld, InProp, InLevel, InFound, Anything}

@@ -1,5 +1,5 @@
 -- What a relation keeps step by step: outcomes, choices, and what is done with a live node.
-use Rattle.std.proofs.Common.{◌≡◌, ℕ, List, [], ◌∷◌, Bool, true, false, Option, Some, None, Result, Ok, Err, if◌then◌else◌, refl, subst}
+use Rattle.std.proofs.Common.{Bool, true, false, Option, Some, None, Result, Ok, Err, if◌then◌else◌, subst}
 use Rattle.std.specs.Prelude.{IfOk}
 use Rattle.snap_core.specs.declared.number.NodeNo.{NodeNo}
 use Rattle.pointer_core.specs.declared.refusal.Rule.{Rule}
@@ -8,7 +8,7 @@ use Rattle.eval_core.specs.declared.site.Site.{Site}
 use Rattle.eval_core.specs.Answer.{Answer}
 use Rattle.eval_core.specs.Sight.{Being}
 use Rattle.eval_core.specs.Run.{Eval, andthen}
-use Rattle.eval_core.specs.Scope.{gives, refused, refused_at, judged}
+use Rattle.eval_core.specs.Scope.{gives, refused_at, judged}
 use Rattle.eval_core.specs.Reading.{of_kind}
 use Rattle.eval_core.specs.Pairing.{Pairing, left_scope, right_scope, InAnswer}
 

@@ -1,19 +1,17 @@
 -- Walks keep the relation.
-use Rattle.std.proofs.Common.{◌≡◌, ℕ, List, [], ◌∷◌, map, Bool, true, false, Result, Ok, Err, if◌then◌else◌, refl}
+use Rattle.std.proofs.Common.{List, [], ◌∷◌, map, Bool, true, false, if◌then◌else◌}
 use Rattle.std.specs.Prelude.{IfOk}
-use Rattle.snap_core.specs.Value.{Value, null, boolean, integer, text, list, dict, Items, no_parts, part}
+use Rattle.snap_core.specs.Value.{boolean, integer, list, Items, no_parts, part}
 use Rattle.snap_core.specs.declared.number.NodeNo.{NodeNo}
 use Rattle.pointer_core.specs.declared.refusal.Rule.{Rule}
-use Rattle.pointer_core.specs.declared.refusal.Rule
 use Rattle.edit_core.specs.declared.kind.Kind.{Kind}
 use Rattle.edit_core.specs.declared.kind.Kind.TheVariants.{Model, Array, Map}
 use Rattle.expr_syntax.specs.Syntax.{Walk, filter, collect, all, any, sum}
 use Rattle.eval_core.specs.declared.site.Site.{Site}
-use Rattle.eval_core.specs.declared.site.Site
 use Rattle.eval_core.specs.Answer.{Answer, Answers, plain, node, several, no_answers, answer, answers_in, with_last}
 use Rattle.eval_core.specs.Sight.{Entry}
-use Rattle.eval_core.specs.Run.{Eval, andthen}
-use Rattle.eval_core.specs.Scope.{gives, refused, judged}
+use Rattle.eval_core.specs.Run.{Eval}
+use Rattle.eval_core.specs.Scope.{refused}
 use Rattle.eval_core.specs.Walking.{Item, given, standing, read_item, plain_items, walked_kind, walked, Turn, on, stop, start, gathered, turned, walk_over}
 use Rattle.eval_core.specs.Pairing.{Pairing, left_scope, right_scope, InAnswer, InAnswers, InHeld, InLevel}
 use Rattle.eval_core.proofs.Steps

@@ -3,11 +3,8 @@ use Rattle.std.specs.Prelude.{ℕ, zero, suc, List, [], ◌∷◌, ◌++◌, Boo
 use Rattle.std.specs.List.{list_any}
 use Rattle.snap_core.specs.declared.number.NodeNo.{NodeNo}
 use Rattle.pointer_core.specs.declared.refusal.Rule.{Rule}
-use Rattle.pointer_core.specs.declared.refusal.Rule
 use Rattle.expr_syntax.specs.declared.number.ViewNo.{ViewNo}
-use Rattle.expr_syntax.specs.Syntax.{Expression}
 use Rattle.eval_core.specs.declared.site.Site.{Site}
-use Rattle.eval_core.specs.declared.site.Site
 use Rattle.eval_core.specs.Answer.{Answer, node}
 use Rattle.eval_core.specs.Sight.{Sight, Being}
 use Rattle.eval_core.specs.Run.{Eval, enters}

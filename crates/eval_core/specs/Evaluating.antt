@@ -1,9 +1,8 @@
 -- Evaluating: what each form gives, in the order in which its parts are evaluated.
-use Rattle.std.specs.Prelude.{ℕ, List, [], ◌∷◌, Bool, false, true, codes, Option, Some, None, Ok, Err, if◌then◌else◌}
+use Rattle.std.specs.Prelude.{List, [], ◌∷◌, Bool, false, true, codes, Option, Some, None, if◌then◌else◌}
 use Rattle.snap_core.specs.Value.{null, boolean}
 use Rattle.pointer_core.specs.declared.refusal.Rule.{Rule}
-use Rattle.pointer_core.specs.declared.refusal.Rule
-use Rattle.expr_syntax.specs.Syntax.{Expression, Expressions, Members, Telling, Walk, collect, keys, items, snapshot, path, constant, variable, own, get, ref, one_sided, two_sided, telling, walk, both, either, choice, bind, list, make, find, is, no_more, more, no_members, member}
+use Rattle.expr_syntax.specs.Syntax.{Expression, Expressions, Members, Telling, collect, keys, items, snapshot, path, constant, variable, own, get, ref, one_sided, two_sided, telling, walk, both, either, choice, bind, list, make, find, is, no_more, more, no_members, member}
 use Rattle.eval_core.specs.Answer.{Answer, Answers, plain, several, no_answers, answer}
 use Rattle.eval_core.specs.Run.{Eval, counts, andthen}
 use Rattle.eval_core.specs.Scope.{Scope, Env, bound_in, gives, refused, judged}

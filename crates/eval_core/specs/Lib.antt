@@ -10,3 +10,4 @@ pub mod Evaluating
 pub mod Asking
 pub mod Seen
 pub mod Pairing
+pub mod Laws

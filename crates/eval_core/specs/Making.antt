@@ -3,9 +3,7 @@ use Rattle.std.specs.Prelude.{ℕ, List, [], ◌∷◌, is_some, Option, Some, N
 use Rattle.snap_core.specs.Value.{Value, list, dict, Items, Fields, no_parts, part, no_members, value_at}
 use Rattle.snap_core.specs.Level.{set_field, insert_field}
 use Rattle.pointer_core.specs.declared.refusal.Rule.{Rule}
-use Rattle.pointer_core.specs.declared.refusal.Rule
 use Rattle.eval_core.specs.declared.cell.Cell.{Cell}
-use Rattle.eval_core.specs.declared.cell.Cell
 use Rattle.eval_core.specs.Answer.{Answer, Answers, plain, node, several, no_answers, answer}
 use Rattle.eval_core.specs.Sight.{Sight, Being}
 use Rattle.eval_core.specs.Run.{Eval, looks, andthen}

@@ -1,12 +1,11 @@
 -- The operators on answers: on plain values as ever; nodes and several answers where an operator takes them.
-use Rattle.std.specs.Prelude.{ℕ, pos, List, Bool, Option, Some, None, Result, Ok, Err, if◌then◌else◌}
+use Rattle.std.specs.Prelude.{ℕ, pos, Bool, Option, Some, None, Result, Ok, Err, if◌then◌else◌}
 use Rattle.snap_core.specs.Value.{Value, boolean, integer}
 use Rattle.pointer_core.specs.declared.refusal.Rule.{Rule}
-use Rattle.pointer_core.specs.declared.refusal.Rule
 use Rattle.expr_syntax.specs.declared.op.Op.{Op}
 use Rattle.expr_syntax.specs.declared.op.Op.TheVariants.{Eq, Item, Size}
 use Rattle.plain_ops.specs.Applied.{applied, index_in}
-use Rattle.eval_core.specs.Answer.{Answer, Answers, plain, node, several, how_many, answer_at, same_answer, is_bounded_answer}
+use Rattle.eval_core.specs.Answer.{Answer, Answers, plain, several, how_many, answer_at, same_answer, is_bounded_answer}
 
 abbrev pub Judged : Type 0
 Judged = Result Answer Rule

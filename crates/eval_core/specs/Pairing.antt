@@ -8,7 +8,6 @@ use Rattle.snap_core.specs.declared.ident.Ident.{Ident}
 use Rattle.pointer_core.specs.Path.{Path}
 use Rattle.expr_syntax.specs.declared.number.ViewNo.{ViewNo}
 use Rattle.eval_core.specs.declared.cell.Cell.{Cell}
-use Rattle.eval_core.specs.declared.cell.Cell
 use Rattle.eval_core.specs.declared.site.Site.{Site}
 use Rattle.eval_core.specs.Answer.{Answer, Answers, plain, node, several, no_answers, answer}
 use Rattle.eval_core.specs.Sight.{Sight, Held, holds, stands, refers, Entry}

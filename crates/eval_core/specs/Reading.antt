@@ -1,13 +1,11 @@
 -- What forms read of nodes.
 use Rattle.std.specs.Prelude.{ℕ, zero, suc, pos, List, [], ◌∷◌, length, map, Bool, false, nat_eq, is_some, Option, Some, None, unwrap_or, if◌then◌else◌}
 use Rattle.std.specs.Str.{bytes_eq}
-use Rattle.snap_core.specs.Value.{Value, null, boolean, integer, text, list, dict, value_at, keys_of}
+use Rattle.snap_core.specs.Value.{Value, null, boolean, integer, text, dict, value_at, keys_of}
 use Rattle.snap_core.specs.declared.number.ModelNo.{ModelNo}
 use Rattle.snap_core.specs.declared.number.NodeNo.{NodeNo}
 use Rattle.snap_core.specs.declared.ident.Ident.{Ident}
-use Rattle.snap_core.specs.declared.ident.Ident
 use Rattle.pointer_core.specs.declared.refusal.Rule.{Rule}
-use Rattle.pointer_core.specs.declared.refusal.Rule
 use Rattle.pointer_core.specs.Path.{printed}
 use Rattle.edit_core.specs.declared.kind.Kind.{Kind}
 use Rattle.edit_core.specs.declared.kind.Kind.TheVariants.{Model, Array, Map}
@@ -15,11 +13,9 @@ use Rattle.expr_syntax.specs.declared.op.Op.{Op}
 use Rattle.expr_syntax.specs.declared.op.Op.TheVariants.{Item, Has, Size}
 use Rattle.plain_ops.specs.Applied.{index_in}
 use Rattle.eval_core.specs.declared.cell.Cell.{Cell}
-use Rattle.eval_core.specs.declared.cell.Cell
 use Rattle.eval_core.specs.declared.site.Site.{Site}
-use Rattle.eval_core.specs.declared.site.Site
 use Rattle.eval_core.specs.Answer.{Answer, Answers, plain, node, several, no_answers, answer}
-use Rattle.eval_core.specs.Sight.{Sight, Being, Link, Held, holds, stands, refers, Entry}
+use Rattle.eval_core.specs.Sight.{Being, Link, Held, holds, stands, refers, Entry}
 use Rattle.eval_core.specs.Run.{Eval, looks, andthen}
 use Rattle.eval_core.specs.Scope.{Member, property, view, Scope, gives, refused, refused_at, judged}
 use Rattle.eval_core.specs.Operating.{operated_on}

@@ -6,13 +6,12 @@ use Rattle.snap_core.specs.Value.{Value, null, text, integer}
 use Rattle.snap_core.specs.declared.number.ModelNo.{ModelNo}
 use Rattle.snap_core.specs.declared.number.NodeNo.{NodeNo}
 use Rattle.snap_core.specs.declared.ident.Ident.{Ident}
-use Rattle.snap_core.specs.declared.ident.Ident
 use Rattle.pointer_core.specs.Path.{Path}
 use Rattle.edit_core.specs.declared.kind.Kind.{Kind}
 use Rattle.edit_core.specs.declared.kind.Kind.TheVariants.{Model, Array, Map}
 use Rattle.edit_core.specs.Labelled.{Label, Labelled, Branches, Entries, leaf, many, keyed, no_branches, branch, no_entries, entry, bare}
 use Rattle.edit_core.specs.Typing.{Typing, label_of}
-use Rattle.eval_core.specs.Sight.{Sight, Being, Held, Entry, Link, holds, stands, refers}
+use Rattle.eval_core.specs.Sight.{Sight, Being, Held, Entry, holds, stands, refers}
 use Rattle.eval_core.specs.Reading.{is_model}
 
 -- a type that is a reference's, names, optional, maybe and maybeNull seen through

@@ -1,14 +1,12 @@
 -- Walks: over the items of an array, the values of a map, several answers, or a plain list.
-use Rattle.std.specs.Prelude.{ℕ, pos, ◌+ℤ◌, List, [], ◌∷◌, map, Bool, true, false, Result, Ok, Err, if◌then◌else◌}
-use Rattle.snap_core.specs.Value.{Value, boolean, integer, list, Items, no_parts, part}
+use Rattle.std.specs.Prelude.{pos, ◌+ℤ◌, List, [], ◌∷◌, map, true, false, Result, Ok, Err, if◌then◌else◌}
+use Rattle.snap_core.specs.Value.{boolean, integer, list, Items, no_parts, part}
 use Rattle.snap_core.specs.declared.number.NodeNo.{NodeNo}
 use Rattle.pointer_core.specs.declared.refusal.Rule.{Rule}
-use Rattle.pointer_core.specs.declared.refusal.Rule
 use Rattle.edit_core.specs.declared.kind.Kind.{Kind}
 use Rattle.edit_core.specs.declared.kind.Kind.TheVariants.{Model}
 use Rattle.expr_syntax.specs.Syntax.{Walk, filter, collect, all, any, sum}
 use Rattle.eval_core.specs.declared.site.Site.{Site}
-use Rattle.eval_core.specs.declared.site.Site
 use Rattle.eval_core.specs.Answer.{Answer, plain, node, several, no_answers, answers_in, with_last}
 use Rattle.eval_core.specs.Sight.{Entry}
 use Rattle.eval_core.specs.Run.{Eval, andthen}

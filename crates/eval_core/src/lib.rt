@@ -3,7 +3,9 @@
 #![tactic(auto)]
 
 mod cell;
+mod laws;
 mod site;
 
 pub use cell::Cell;
+pub use laws::{height_tells_deep, same_cells_same_run};
 pub use site::Site;

@@ -1,0 +1,82 @@
+-- What holds of evaluating.
+use Rattle.std.specs.Prelude.{◌≡◌, ℕ, ◌<◌, ◌≤◌, List, [], ◌∷◌, Bool, false, IsTrue, Err, IsOk}
+use Rattle.snap_core.specs.declared.number.NodeNo.{NodeNo}
+use Rattle.pointer_core.specs.declared.refusal.Rule.{Rule}
+use Rattle.expr_syntax.specs.declared.number.ViewNo.{ViewNo}
+use Rattle.expr_syntax.specs.Syntax.{Expression}
+use Rattle.eval_core.specs.declared.cell.Cell.{Cell}
+use Rattle.eval_core.specs.declared.cell.Cell.TheVariants.{Prop, Shape, Place, Whole, Known}
+use Rattle.eval_core.specs.Answer.{Answer}
+use Rattle.eval_core.specs.Sight.{Sight}
+use Rattle.eval_core.specs.Run.{Run, Entered}
+use Rattle.eval_core.specs.Scope.{Viewing, Env}
+use Rattle.eval_core.specs.Evaluating.{evaluated}
+use Rattle.eval_core.specs.Asking.{Asked, Stack, in_progress, site_of, asked, view_run, frame_scope}
+use Rattle.eval_core.specs.Pairing.{InProp, InLevel, InFound, InEnv}
+
+-- a fact of each cell that was read
+abbrev pub EachCell : (Cell → Type 0) → List Cell → Type 0
+EachCell Fact [] = Unit {0}
+EachCell Fact (c ∷ cs) = Fact c × EachCell Fact cs
+
+-- the nodes that are the same in two sights
+abbrev pub IsSame : (NodeNo → Bool) → NodeNo → Type 0
+IsSame same n = IsTrue (same n)
+
+-- Two sights agree at a cell: they see the same there, and of the same nodes.
+abbrev pub AgreeAt : (NodeNo → Bool) → Sight → Sight → Cell → Type 0
+AgreeAt same a b (Prop n p) = (a.prop n p ≡ b.prop n p) × InProp (IsSame same) (a.prop n p)
+AgreeAt same a b (Shape n) = (a.level n ≡ b.level n) × InLevel (IsSame same) (a.level n)
+AgreeAt same a b (Place n) = a.place n ≡ b.place n
+AgreeAt same a b (Whole n) = a.whole n ≡ b.whole n
+AgreeAt same a b (Known m i) = (a.known m i ≡ b.known m i) × InFound (IsSame same) (a.known m i)
+
+-- some nodes are the same in two sights, the root among them
+pub record AreAlike (same : NodeNo → Bool) (a b : Sight) : Type 0 where
+  pub root : a.root ≡ b.root
+  pub root_same : IsTrue (same a.root)
+  pub beings : (n : NodeNo) → IsTrue (same n) → a.being n ≡ b.being n
+
+-- The whole run is the same over the other sight, where the two agree at each cell that it read: of a view that is asked
+-- of a node, and of an expression in a statement or a condition.
+pub record RunsAlike (viewing : Viewing) (same : NodeNo → Bool) (a b : Sight) : Type 0 where
+  pub views : (room : ℕ) (stack : Stack) (n : NodeNo) (v : ViewNo) (before : ℕ) → IsTrue (same n)
+      → EachCell (AgreeAt same a b) (asked viewing a room stack n v before).reads
+      → asked viewing b room stack n v before ≡ asked viewing a room stack n v before
+  pub expressions : (e : Expression) (env : Env) (before : ℕ) → InEnv (IsSame same) env
+      → EachCell (AgreeAt same a b) (evaluated (frame_scope viewing a) e env before).reads
+      → evaluated (frame_scope viewing b) e env before ≡ evaluated (frame_scope viewing a) e env before
+
+abbrev pub SameCellsSameRun : Type 0
+SameCellsSameRun = (viewing : Viewing) (same : NodeNo → Bool) (a b : Sight) → AreAlike same a b → RunsAlike viewing same a b
+
+-- views in progress, the first one by itself, and room for so many more
+pub record Progress : Type 0 where
+  pub first : Asked
+  pub others : Stack
+  pub room : ℕ
+
+abbrev pub stack_of : Progress → Stack
+stack_of going = going.first ∷ going.others
+
+-- none of the views whose bodies were entered is in progress
+abbrev pub NoneGoing : Stack → List Entered → Type 0
+NoneGoing stack [] = Unit {0}
+NoneGoing stack (e ∷ es) = (in_progress (record { node = e.node; view = e.view }) stack ≡ false) × NoneGoing stack es
+
+abbrev pub alone : Viewing → Sight → Asked → Run Answer
+alone viewing sight q = view_run viewing sight q.node q.view 0
+
+abbrev pub among : Viewing → Sight → Asked → Progress → Run Answer
+among viewing sight q going = asked viewing sight going.room (stack_of going) q.node q.view 0
+
+-- A view that ends well from nothing, asked while others are in progress: the same run where its height has room, and
+-- otherwise too many views in progress, told of the first one.
+pub record HeightTells (viewing : Viewing) (sight : Sight) (q : Asked) (going : Progress) : Type 0 where
+  pub fits : (alone viewing sight q).height ≤ going.room → among viewing sight q going ≡ alone viewing sight q
+  pub deep : going.room < (alone viewing sight q).height → (among viewing sight q going).outcome ≡ Err (record { rule = Rule.Deep; site = site_of going.first })
+
+abbrev pub HeightTellsDeep : Type 0
+HeightTellsDeep =
+    (viewing : Viewing) (sight : Sight) (q : Asked) (going : Progress) → IsOk (alone viewing sight q).outcome
+    → NoneGoing (stack_of going) (alone viewing sight q).entered → HeightTells viewing sight q going
