@@ -1,5 +1,6 @@
 pub mod Office
 pub mod Examples
+pub mod Forms
 pub mod Steps
 pub mod Readings
 pub mod Operators

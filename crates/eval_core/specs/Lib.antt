@@ -8,6 +8,7 @@ pub mod Walking
 pub mod Making
 pub mod Evaluating
 pub mod Asking
+pub mod Reads
 pub mod Seen
 pub mod Pairing
 pub mod Laws
