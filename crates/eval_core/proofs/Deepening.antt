@@ -16,6 +16,7 @@ use Rattle.eval_core.specs.Evaluating.{evaluated}
 use Rattle.eval_core.specs.Asking.{Asked, Stack, same_asked, in_progress, site_of, first_asked, unless_cycle, unless_dead, bound_at, body_run, asked, most_views}
 use Rattle.eval_core.specs.Pairing.{Pairing, InAnswer, InAnswers, InProp, InLevel, InFound, Anything}
 use Rattle.eval_core.specs.Laws.{NoneGoing, alone, among, stack_of, HeightTellsDeep}
+use Rattle.eval_core.proofs.AnyNode.{Any, anything, any-prop, any-level, any-found, in_any}
 use Rattle.eval_core.proofs.Evaluations.{evaluating}
 
 -- What a run tells of another one that has room for so many more views: the same where its height has room, else refused.
@@ -57,10 +58,6 @@ lift-told outer room A P outcome fine before ok none = flat room (too_deep outer
 looks-told : (outer : Outer) (room : ℕ) (A : Type 0) (P : A → Type 0) (c : Cell) (x : A) → P x → Told outer room A P (looks c x) (looks c x)
 unfolding looks
 looks-told outer room A P c x fine before ok none = flat room (too_deep outer) P (looks c x before) refl fine
-
-anything : {A : Type 0} (o : Result A Fault) → IfOk o Anything
-anything (Ok x) = tt
-anything (Err fault) = tt
 
 counts-told : (outer : Outer) (room : ℕ) (site : Site) → Told outer room (Unit {0}) Anything (counts site) (counts site)
 unfolding counts
@@ -121,27 +118,6 @@ thens-told : (outer : Outer) (room : ℕ) (A B : Type 0) (P : A → Type 0) (Q :
 unfolding andthen
 thens-told outer room A B P Q e f next then_next h k before ok none =
     continued-told outer room A B P Q next then_next before (e before) (f before) (e before).outcome refl (h before) k ok none
-
--- every node will do
-abbrev Any : NodeNo → Type 0
-Any n = Unit {0}
-
-any-held : (h : Held) → InProp Any (Some h)
-any-held (holds v) = tt
-any-held (stands n) = tt
-any-held (refers link) = tt
-
-any-prop : (o : Option Held) → InProp Any o
-any-prop None = tt
-any-prop (Some h) = any-held h
-
-any-level : (es : List Entry) → InLevel Any es
-any-level [] = tt
-any-level (e ∷ es) = (any-held e.held, any-level es)
-
-any-found : (o : Option NodeNo) → InFound Any o
-any-found None = tt
-any-found (Some n) = tt
 
 abbrev AskTold : Outer → ℕ → (NodeNo → ViewNo → Eval Answer) → (NodeNo → ViewNo → Eval Answer) → Type 0
 AskTold outer room ask other = (n : NodeNo) (v : ViewNo) → Told outer room Answer (InAnswer Any) (ask n v) (other n v)
@@ -224,20 +200,6 @@ too_deep-told outer inner q e before high fine = record { fits = λ low. absurd 
 enters-high : (q : Asked) (e : Eval Answer) (before : ℕ) → 0 < (enters q.node q.view e before).height
 unfolding enters
 enters-high q e before = omega arith
-
-mutual
-  any-answer : (x : Answer) → InAnswer Any x
-  any-answer (plain v) = tt
-  any-answer (node n) = tt
-  any-answer (several xs) = any-answers xs
-
-  any-answers : (xs : Answers) → InAnswers Any xs
-  any-answers no_answers = tt
-  any-answers (answer x xs) = (any-answer x, any-answers xs)
-
-in_any : (o : Result Answer Fault) → IfOk o (InAnswer Any)
-in_any (Ok x) = any-answer x
-in_any (Err fault) = tt
 
 entered-apart : (outer : Outer) (inner : Stack) (q : Asked) (e : Eval Answer) (before : ℕ) → NoneGoing (stack_in outer) (enters q.node q.view e before).entered
     → in_progress q inner ≡ false → in_progress q (stack_in outer ++ inner) ≡ false

@@ -8,4 +8,6 @@ pub mod Walks
 pub mod Makings
 pub mod Evaluations
 pub mod Agreeing
+pub mod AnyNode
 pub mod Deepening
+pub mod Within

@@ -1,5 +1,5 @@
 -- What holds of evaluating.
-use Rattle.std.specs.Prelude.{◌≡◌, ℕ, ◌<◌, ◌≤◌, List, [], ◌∷◌, Bool, false, IsTrue, Err, IsOk}
+use Rattle.std.specs.Prelude.{◌≡◌, ℕ, ◌+◌, ◌<◌, ◌≤◌, List, [], ◌∷◌, Bool, false, IsTrue, Err, IsOk}
 use Rattle.snap_core.specs.declared.number.NodeNo.{NodeNo}
 use Rattle.pointer_core.specs.declared.refusal.Rule.{Rule}
 use Rattle.expr_syntax.specs.declared.number.ViewNo.{ViewNo}
@@ -8,10 +8,10 @@ use Rattle.eval_core.specs.declared.cell.Cell.{Cell}
 use Rattle.eval_core.specs.declared.cell.Cell.TheVariants.{Prop, Shape, Place, Whole, Known}
 use Rattle.eval_core.specs.Answer.{Answer}
 use Rattle.eval_core.specs.Sight.{Sight}
-use Rattle.eval_core.specs.Run.{Run, Entered}
+use Rattle.eval_core.specs.Run.{Run, Entered, most_expressions}
 use Rattle.eval_core.specs.Scope.{Viewing, Env}
 use Rattle.eval_core.specs.Evaluating.{evaluated}
-use Rattle.eval_core.specs.Asking.{Asked, Stack, in_progress, site_of, asked, view_run, frame_scope}
+use Rattle.eval_core.specs.Asking.{Asked, Stack, in_progress, site_of, asked, view_run, frame_scope, most_views}
 use Rattle.eval_core.specs.Pairing.{InProp, InLevel, InFound, InEnv}
 
 -- a fact of each cell that was read
@@ -80,3 +80,22 @@ abbrev pub HeightTellsDeep : Type 0
 HeightTellsDeep =
     (viewing : Viewing) (sight : Sight) (q : Asked) (going : Progress) → IsOk (alone viewing sight q).outcome
     → NoneGoing (stack_of going) (alone viewing sight q).entered → HeightTells viewing sight q going
+
+-- each body that was entered counted no more expressions than one may
+abbrev pub EachWithin : List Entered → Type 0
+EachWithin [] = Unit {0}
+EachWithin (e ∷ es) = (e.own ≤ most_expressions) × EachWithin es
+
+-- What a run comes to, after so many expressions of the same body and with room for so many views.
+pub record IsWithin {A : Type 0} (room before : ℕ) (run : Run A) : Type 0 where
+  pub counted : before ≤ most_expressions → before + run.own ≤ most_expressions
+  pub high : run.height ≤ room
+  pub each : EachWithin run.entered
+
+-- no body, statement or condition counts more expressions than it may, and no more views are in progress than may be
+pub record RunsStayWithin (viewing : Viewing) (sight : Sight) : Type 0 where
+  pub views : (room : ℕ) (stack : Stack) (n : NodeNo) (v : ViewNo) (before : ℕ) → IsWithin room before (asked viewing sight room stack n v before)
+  pub expressions : (e : Expression) (env : Env) (before : ℕ) → IsWithin most_views before (evaluated (frame_scope viewing sight) e env before)
+
+abbrev pub AllStayWithin : Type 0
+AllStayWithin = (viewing : Viewing) (sight : Sight) → RunsStayWithin viewing sight

@@ -1,4 +1,4 @@
-ghost use Rattle.eval_core.specs.Laws.{SameCellsSameRun, HeightTellsDeep};
+ghost use Rattle.eval_core.specs.Laws.{SameCellsSameRun, HeightTellsDeep, AllStayWithin};
 
 /// A run is the same over another sight, where the two agree at each cell that it read: answer or refusal, reads in
 /// order, height and counts.
@@ -10,4 +10,9 @@ pub fn same_cells_same_run()
 /// Otherwise too many views are in progress.
 pub fn height_tells_deep()
     ensures { HeightTellsDeep }
+{}
+
+/// No body, statement or condition counts more expressions than it may, and no more views are in progress than may be.
+pub fn all_stay_within()
+    ensures { AllStayWithin }
 {}

@@ -7,5 +7,5 @@ mod laws;
 mod site;
 
 pub use cell::Cell;
-pub use laws::{height_tells_deep, same_cells_same_run};
+pub use laws::{all_stay_within, height_tells_deep, same_cells_same_run};
 pub use site::Site;
