@@ -1,5 +1,5 @@
 -- A fact that holds of every node holds of all that is seen and answered.
-use Rattle.std.proofs.Common.{ℕ, List, [], ◌∷◌, Option, Some, None, Result, Ok, Err}
+use Rattle.std.proofs.Common.{List, [], ◌∷◌, Option, Some, None, Result, Ok, Err}
 use Rattle.std.specs.Prelude.{IfOk}
 use Rattle.snap_core.specs.declared.number.NodeNo.{NodeNo}
 use Rattle.eval_core.specs.Answer.{Answer, Answers, plain, node, several, no_answers, answer}

@@ -8,13 +8,13 @@ use Rattle.pointer_core.specs.declared.refusal.Rule.{Rule}
 use Rattle.expr_syntax.specs.declared.number.ViewNo.{ViewNo}
 use Rattle.eval_core.specs.declared.cell.Cell.{Cell}
 use Rattle.eval_core.specs.declared.site.Site.{Site}
-use Rattle.eval_core.specs.Answer.{Answer, Answers, plain, node, several, no_answers, answer}
-use Rattle.eval_core.specs.Sight.{Sight, Being, Held, holds, stands, refers, Entry}
+use Rattle.eval_core.specs.Answer.{Answer}
+use Rattle.eval_core.specs.Sight.{Sight, Being, Held, Entry}
 use Rattle.eval_core.specs.Run.{Run, Eval, Entered, Fault, lift, looks, counts, joined, ended, continued, andthen, enters}
 use Rattle.eval_core.specs.Scope.{Viewing, Env, refused_at}
 use Rattle.eval_core.specs.Evaluating.{evaluated}
 use Rattle.eval_core.specs.Asking.{Asked, Stack, same_asked, in_progress, site_of, first_asked, unless_cycle, unless_dead, bound_at, body_run, asked, most_views}
-use Rattle.eval_core.specs.Pairing.{Pairing, InAnswer, InAnswers, InProp, InLevel, InFound, Anything}
+use Rattle.eval_core.specs.Pairing.{Pairing, InAnswer, InProp, InLevel, InFound, Anything}
 use Rattle.eval_core.specs.Laws.{NoneGoing, alone, among, stack_of, HeightTellsDeep}
 use Rattle.eval_core.proofs.AnyNode.{Any, anything, any-prop, any-level, any-found, in_any}
 use Rattle.eval_core.proofs.Evaluations.{evaluating}

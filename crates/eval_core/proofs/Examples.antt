@@ -1,17 +1,13 @@
 -- Views of an office, computed on examples.
-use Rattle.std.proofs.Common.{◌≡◌, ℕ, List, [], ◌∷◌, Result, Ok, Err, true, false, Some, None, pos, refl}
+use Rattle.std.proofs.Common.{◌≡◌, ℕ, List, [], ◌∷◌, Result, Ok, Err, true, false, pos, refl}
 use Rattle.std.specs.Prelude.{codes}
-use Rattle.snap_core.specs.Value.{Value, null, boolean, integer, text, no_members, member, Fields}
+use Rattle.snap_core.specs.Value.{Value, null, integer, text, no_members, member, Fields}
 use Rattle.snap_core.specs.declared.ident.Ident.{Ident}
-use Rattle.snap_core.specs.declared.ident.Ident
 use Rattle.pointer_core.specs.declared.refusal.Rule.{Rule}
-use Rattle.pointer_core.specs.declared.refusal.Rule
 use Rattle.eval_core.specs.declared.cell.Cell.{Cell}
-use Rattle.eval_core.specs.declared.cell.Cell
 use Rattle.eval_core.specs.declared.site.Site.{Site}
-use Rattle.eval_core.specs.declared.site.Site
-use Rattle.eval_core.specs.Answer.{Answer, plain, node, several}
-use Rattle.eval_core.specs.Run.{Run, Fault, Entered, Eval, lift, looks, counts, joined, ended, andthen, enters}
+use Rattle.eval_core.specs.Answer.{Answer, plain, node}
+use Rattle.eval_core.specs.Run.{Run, Fault, lift, looks, counts, joined, ended, andthen, enters}
 use Rattle.eval_core.specs.Asking.{Asked, asked, view_run}
 use Rattle.eval_core.specs.Reads.{reads_of}
 use Rattle.eval_core.proofs.Office.{model, number, view_no, viewing, sight, office, user, todo, height_body, pending_body, focused_body}

@@ -1,20 +1,16 @@
 -- Single forms, computed on examples, among them those on which a near miss of the definition would differ.
-use Rattle.std.proofs.Common.{◌≡◌, ℕ, List, [], ◌∷◌, Result, Ok, Err, true, false, Some, None, pos, negsuc, refl}
+use Rattle.std.proofs.Common.{◌≡◌, ℕ, [], ◌∷◌, Result, Ok, Err, true, false, pos, negsuc, refl}
 use Rattle.std.specs.Prelude.{codes}
 use Rattle.std.specs.Str.{chars}
-use Rattle.snap_core.specs.Value.{Value, null, boolean, integer, text, dict, no_members, member, Fields}
+use Rattle.snap_core.specs.Value.{Value, null, boolean, integer, text, dict, no_members, member}
 use Rattle.pointer_core.specs.declared.refusal.Rule.{Rule}
-use Rattle.pointer_core.specs.declared.refusal.Rule
-use Rattle.expr_syntax.specs.declared.op.Op.{Op}
-use Rattle.expr_syntax.specs.declared.op.Op.TheVariants.{Add, Div, Mod, Eq, Size, Not, Item}
+use Rattle.expr_syntax.specs.declared.op.Op.TheVariants.{Add, Div, Mod, Eq, Size}
 use Rattle.expr_syntax.specs.Syntax.{Expression, Expressions, filter, collect, all, any, sum, keys, constant, variable, own, get, one_sided, two_sided, telling, walk, both, either, no_more, more}
 use Rattle.expr_syntax.specs.Syntax as syntax
 use Rattle.eval_core.specs.declared.cell.Cell.{Cell}
-use Rattle.eval_core.specs.declared.cell.Cell
 use Rattle.eval_core.specs.declared.site.Site.{Site}
-use Rattle.eval_core.specs.declared.site.Site
-use Rattle.eval_core.specs.Answer.{Answer, plain, node, several, no_answers, answer}
-use Rattle.eval_core.specs.Run.{Run, Fault, Eval, lift, looks, counts, joined, ended, andthen, enters}
+use Rattle.eval_core.specs.Answer.{Answer, plain}
+use Rattle.eval_core.specs.Run.{Run, Fault, lift, looks, counts, joined, ended, andthen}
 use Rattle.eval_core.specs.Evaluating.{evaluated}
 use Rattle.eval_core.specs.Asking.{frame_scope, bound_at}
 use Rattle.eval_core.proofs.Office.{number, viewing, sight, office, user, todo}

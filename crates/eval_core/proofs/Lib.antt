@@ -11,3 +11,5 @@ pub mod Agreeing
 pub mod AnyNode
 pub mod Deepening
 pub mod Within
+pub mod Among
+pub mod Traces

@@ -1,21 +1,18 @@
 -- No body counts more expressions than it may, and no more views are in progress than may be.
-use Rattle.std.proofs.Common.{◌≡◌, ℕ, zero, suc, ◌+◌, ◌<◌, ◌≤◌, max, List, [], ◌∷◌, ◌++◌, Bool, true, false, Option, Some, None, Result, Ok, Err, if◌then◌else◌, refl, subst, arith}
+use Rattle.std.proofs.Common.{◌≡◌, ℕ, zero, suc, ◌+◌, ◌≤◌, List, [], ◌∷◌, ◌++◌, Bool, true, false, Option, Some, None, Result, Ok, Err, if◌then◌else◌, refl, arith}
 use Rattle.std.specs.Prelude.{IfOk, nat_lt}
 use Rattle.std.proofs.lemmas.Bool.Decides.{nat_tests}
 use Rattle.snap_core.specs.Value.{Value}
 use Rattle.snap_core.specs.declared.number.NodeNo.{NodeNo}
 use Rattle.pointer_core.specs.Path.{Path}
 use Rattle.pointer_core.specs.declared.refusal.Rule.{Rule}
-use Rattle.pointer_core.specs.declared.refusal.Rule
 use Rattle.expr_syntax.specs.declared.number.ViewNo.{ViewNo}
 use Rattle.eval_core.specs.declared.cell.Cell.{Cell}
-use Rattle.eval_core.specs.declared.cell.Cell
 use Rattle.eval_core.specs.declared.site.Site.{Site}
-use Rattle.eval_core.specs.declared.site.Site
 use Rattle.eval_core.specs.Answer.{Answer}
 use Rattle.eval_core.specs.Sight.{Sight, Being, Held, Entry}
 use Rattle.eval_core.specs.Run.{Run, Eval, Entered, Fault, lift, looks, counts, most_expressions, joined, ended, continued, andthen, enters}
-use Rattle.eval_core.specs.Scope.{Viewing, Env, refused_at}
+use Rattle.eval_core.specs.Scope.{Viewing, refused_at}
 use Rattle.eval_core.specs.Asking.{Asked, Stack, in_progress, site_of, first_asked, unless_cycle, unless_dead, bound_at, asked, most_views, view_run}
 use Rattle.eval_core.specs.Pairing.{Pairing, InAnswer, InProp, InLevel, InFound, Anything}
 use Rattle.eval_core.specs.Laws.{EachWithin, IsWithin, RunsStayWithin}

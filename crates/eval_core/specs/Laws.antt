@@ -1,5 +1,5 @@
 -- What holds of evaluating.
-use Rattle.std.specs.Prelude.{◌≡◌, ℕ, ◌+◌, ◌<◌, ◌≤◌, List, [], ◌∷◌, Bool, false, IsTrue, Err, IsOk}
+use Rattle.std.specs.Prelude.{◌≡◌, ℕ, ◌+◌, ◌<◌, ◌≤◌, List, [], ◌∷◌, Bool, false, IsTrue, Option, Some, None, Err, IsOk}
 use Rattle.snap_core.specs.declared.number.NodeNo.{NodeNo}
 use Rattle.pointer_core.specs.declared.refusal.Rule.{Rule}
 use Rattle.expr_syntax.specs.declared.number.ViewNo.{ViewNo}
@@ -99,3 +99,31 @@ pub record RunsStayWithin (viewing : Viewing) (sight : Sight) : Type 0 where
 
 abbrev pub AllStayWithin : Type 0
 AllStayWithin = (viewing : Viewing) (sight : Sight) → RunsStayWithin viewing sight
+
+-- A view that ends well while others are in progress does the same from nothing.
+abbrev pub AmongIsAlone : Type 0
+AmongIsAlone =
+    (viewing : Viewing) (sight : Sight) (q : Asked) (room : ℕ) (stack : Stack) → room ≤ most_views
+    → IsOk (asked viewing sight room stack q.node q.view 0).outcome → alone viewing sight q ≡ asked viewing sight room stack q.node q.view 0
+
+-- the view of an entry of a trace
+abbrev pub asked_in : Entered → Asked
+asked_in e = record { node = e.node; view = e.view }
+
+abbrev pub first_entered : List Entered → Option Entered
+first_entered [] = None
+first_entered (e ∷ es) = Some e
+
+-- an entry of a trace is the one that its view has from nothing, where it ends well too
+pub record IsItsOwn (viewing : Viewing) (sight : Sight) (e : Entered) : Type 0 where
+  pub well : IsOk (alone viewing sight (asked_in e)).outcome
+  pub own : first_entered (alone viewing sight (asked_in e)).entered ≡ Some e
+
+abbrev pub EachItsOwn : Viewing → Sight → List Entered → Type 0
+EachItsOwn viewing sight [] = Unit {0}
+EachItsOwn viewing sight (e ∷ es) = IsItsOwn viewing sight e × EachItsOwn viewing sight es
+
+-- In the trace of a view that ends well, a view counts the same wherever it is entered: what it counts from nothing.
+abbrev pub TracesRepeat : Type 0
+TracesRepeat =
+    (viewing : Viewing) (sight : Sight) (q : Asked) → IsOk (alone viewing sight q).outcome → EachItsOwn viewing sight (alone viewing sight q).entered

@@ -1,16 +1,14 @@
 -- The cells that a view read.
-use Rattle.std.specs.Prelude.{ℕ, List, [], ◌∷◌, Bool, false, ◌&&◌, not, nat_eq, if◌then◌else◌}
+use Rattle.std.specs.Prelude.{List, [], ◌∷◌, Bool, false, ◌&&◌, nat_eq, if◌then◌else◌}
 use Rattle.std.specs.List.{list_any}
 use Rattle.std.specs.Ordering.{int_eq}
 use Rattle.std.specs.Str.{bytes_eq}
 use Rattle.snap_core.specs.declared.number.NodeNo.{NodeNo}
 use Rattle.snap_core.specs.declared.ident.Ident.{Ident}
-use Rattle.snap_core.specs.declared.ident.Ident
 use Rattle.expr_syntax.specs.declared.number.ViewNo.{ViewNo}
 use Rattle.eval_core.specs.declared.cell.Cell.{Cell}
 use Rattle.eval_core.specs.declared.cell.Cell.TheVariants.{Prop, Shape, Place, Whole, Known}
 use Rattle.eval_core.specs.Sight.{Sight}
-use Rattle.eval_core.specs.Run.{Run}
 use Rattle.eval_core.specs.Scope.{Viewing}
 use Rattle.eval_core.specs.Asking.{view_run}
 

@@ -1,4 +1,4 @@
-ghost use Rattle.eval_core.specs.Laws.{SameCellsSameRun, HeightTellsDeep, AllStayWithin};
+ghost use Rattle.eval_core.specs.Laws.{SameCellsSameRun, HeightTellsDeep, AllStayWithin, AmongIsAlone, TracesRepeat};
 
 /// A run is the same over another sight, where the two agree at each cell that it read: answer or refusal, reads in
 /// order, height and counts.
@@ -7,12 +7,23 @@ pub fn same_cells_same_run()
 {}
 
 /// A view that ends well from nothing does the same while others are in progress, where its height has room.
-/// Otherwise too many views are in progress.
+/// Otherwise too many views are in progress, which is told of the first of them.
 pub fn height_tells_deep()
     ensures { HeightTellsDeep }
 {}
 
-/// No body, statement or condition counts more expressions than it may, and no more views are in progress than may be.
+/// A view that ends well while others are in progress does the same from nothing.
+pub fn among_is_alone()
+    ensures { AmongIsAlone }
+{}
+
+/// In the trace of a view that ends well, a view counts the same wherever it is entered.
+pub fn traces_repeat()
+    ensures { TracesRepeat }
+{}
+
+/// No body, statement or condition counts more expressions than it may, and no more views are in progress than
+/// may be.
 pub fn all_stay_within()
     ensures { AllStayWithin }
 {}
