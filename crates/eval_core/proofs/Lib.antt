@@ -13,3 +13,4 @@ pub mod Deepening
 pub mod Within
 pub mod Among
 pub mod Traces
+pub mod PlainOperands

@@ -1,15 +1,20 @@
 -- What holds of evaluating.
 use Rattle.std.specs.Prelude.{◌≡◌, ℕ, ◌+◌, ◌<◌, ◌≤◌, List, [], ◌∷◌, Bool, false, IsTrue, Option, Some, None, Err, IsOk}
+use Rattle.snap_core.specs.Value.{Value}
 use Rattle.snap_core.specs.declared.number.NodeNo.{NodeNo}
 use Rattle.pointer_core.specs.declared.refusal.Rule.{Rule}
 use Rattle.expr_syntax.specs.declared.number.ViewNo.{ViewNo}
+use Rattle.expr_syntax.specs.declared.op.Op.{Op}
+use Rattle.plain_ops.specs.Applied.{operated}
 use Rattle.expr_syntax.specs.Syntax.{Expression}
 use Rattle.eval_core.specs.declared.cell.Cell.{Cell}
 use Rattle.eval_core.specs.declared.cell.Cell.TheVariants.{Prop, Shape, Place, Whole, Known}
-use Rattle.eval_core.specs.Answer.{Answer}
+use Rattle.eval_core.specs.Answer.{Answer, plain}
 use Rattle.eval_core.specs.Sight.{Sight}
 use Rattle.eval_core.specs.Run.{Run, Entered, most_expressions}
-use Rattle.eval_core.specs.Scope.{Viewing, Env}
+use Rattle.eval_core.specs.Scope.{Scope, Viewing, Env, judged}
+use Rattle.eval_core.specs.Operating.{operated_on, bounded_outcome, as_plain}
+use Rattle.eval_core.specs.Reading.{operate}
 use Rattle.eval_core.specs.Evaluating.{evaluated}
 use Rattle.eval_core.specs.Asking.{Asked, Stack, in_progress, site_of, asked, view_run, frame_scope, most_views}
 use Rattle.eval_core.specs.Pairing.{InProp, InLevel, InFound, InEnv}
@@ -127,3 +132,12 @@ EachItsOwn viewing sight (e ∷ es) = IsItsOwn viewing sight e × EachItsOwn vie
 abbrev pub TracesRepeat : Type 0
 TracesRepeat =
     (viewing : Viewing) (sight : Sight) (q : Asked) → IsOk (alone viewing sight q).outcome → EachItsOwn viewing sight (alone viewing sight q).entered
+
+-- On plain operands an operator reads nothing, and what it gives, tested as every result is, is what it gives on plain
+-- values.
+pub record OperatesPlainly (s : Scope) (op : Op) (v w : Value) : Type 0 where
+  pub reads_nothing : operate s op (plain v) (plain w) ≡ judged s (operated_on op (plain v) (plain w))
+  pub tested : bounded_outcome (operated_on op (plain v) (plain w)) ≡ as_plain (operated op v w)
+
+abbrev pub PlainOperands : Type 0
+PlainOperands = (s : Scope) (op : Op) (v w : Value) → OperatesPlainly s op v w

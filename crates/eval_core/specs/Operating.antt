@@ -47,3 +47,8 @@ in_bounds x = if is_bounded_answer x then Ok x else Err Rule.Range
 abbrev pub truth_in : Answer → Result Bool Rule
 truth_in (plain (boolean b)) = Ok b
 truth_in x = Err Rule.Kind
+
+-- an outcome, with its result tested
+abbrev pub bounded_outcome : Judged → Judged
+bounded_outcome (Ok x) = in_bounds x
+bounded_outcome (Err rule) = Err rule

@@ -1,4 +1,4 @@
-ghost use Rattle.eval_core.specs.Laws.{SameCellsSameRun, HeightTellsDeep, AllStayWithin, AmongIsAlone, TracesRepeat};
+ghost use Rattle.eval_core.specs.Laws.{SameCellsSameRun, HeightTellsDeep, AllStayWithin, AmongIsAlone, TracesRepeat, PlainOperands};
 
 /// A run is the same over another sight, where the two agree at each cell that it read: answer or refusal, reads in
 /// order, height and counts.
@@ -26,4 +26,9 @@ pub fn traces_repeat()
 /// may be.
 pub fn all_stay_within()
     ensures { AllStayWithin }
+{}
+
+/// On plain operands an operator reads nothing, and gives what it gives on plain values.
+pub fn plain_operands()
+    ensures { PlainOperands }
 {}

@@ -20,6 +20,7 @@ mod site;
 
 pub use cell::Cell;
 pub use laws::{
-    all_stay_within, among_is_alone, height_tells_deep, same_cells_same_run, traces_repeat,
+    all_stay_within, among_is_alone, height_tells_deep, plain_operands, same_cells_same_run,
+    traces_repeat,
 };
 pub use site::Site;
