@@ -86,7 +86,7 @@ HeightTellsDeep =
     (viewing : Viewing) (sight : Sight) (q : Asked) (going : Progress) → IsOk (alone viewing sight q).outcome
     → NoneGoing (stack_of going) (alone viewing sight q).entered → HeightTells viewing sight q going
 
--- each body that was entered counted no more expressions than one may
+-- each body that was entered counted at most as many expressions as a body may
 abbrev pub EachWithin : List Entered → Type 0
 EachWithin [] = Unit {0}
 EachWithin (e ∷ es) = (e.own ≤ most_expressions) × EachWithin es

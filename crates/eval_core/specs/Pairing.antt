@@ -29,7 +29,7 @@ abbrev pub InEnv : (NodeNo → Type 0) → Env → Type 0
 InEnv Good [] = Unit {0}
 InEnv Good (b ∷ bs) = InAnswer Good b.1 × InEnv Good bs
 
--- the same for what is seen
+-- a fact of nodes, for each node in what is seen
 abbrev pub InHeld : (NodeNo → Type 0) → Held → Type 0
 InHeld Good (holds v) = Unit {0}
 InHeld Good (stands n) = Good n
@@ -69,7 +69,7 @@ pub record Pairing : Type 1 where
       → Rel A P e f → ((x : A) → P x → Rel B Q (next x) (then_next x)) → Rel B Q (andthen e next) (andthen f then_next)
   pub counting : Rel (Unit {0}) Anything (counts here) (counts here)
   pub asks : (n : NodeNo) (v : ViewNo) → Good n → Rel Answer (InAnswer Good) (ask_left n v) (ask_right n v)
-  -- and by looking at each cell
+  -- the relation is kept by looking at each cell
   pub props : (n : NodeNo) (p : List ℕ) → Good n
       → Rel (Option Held) (InProp Good) (looks (Cell.Prop n p) (left.prop n p)) (looks (Cell.Prop n p) (right.prop n p))
   pub levels : (n : NodeNo) → Good n → Rel (List Entry) (InLevel Good) (looks (Cell.Shape n) (left.level n)) (looks (Cell.Shape n) (right.level n))
