@@ -1,0 +1,16 @@
+pub mod Office
+pub mod Examples
+pub mod Forms
+pub mod Steps
+pub mod Readings
+pub mod Operators
+pub mod Walks
+pub mod Makings
+pub mod Evaluations
+pub mod Agreeing
+pub mod AnyNode
+pub mod Deepening
+pub mod Within
+pub mod Among
+pub mod Traces
+pub mod PlainOperands

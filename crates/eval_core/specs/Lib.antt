@@ -1,0 +1,14 @@
+pub mod Answer
+pub mod Sight
+pub mod Run
+pub mod Scope
+pub mod Operating
+pub mod Reading
+pub mod Walking
+pub mod Making
+pub mod Evaluating
+pub mod Asking
+pub mod Reads
+pub mod Seen
+pub mod Pairing
+pub mod Laws

@@ -1,0 +1,5 @@
+pub mod Syntax
+pub mod Shown
+pub mod ShownStatements
+pub mod Forms
+pub mod Stmts

@@ -1,0 +1,5 @@
+pub mod Division
+pub mod Sizes
+pub mod Indices
+pub mod Equality
+pub mod FieldLemmas

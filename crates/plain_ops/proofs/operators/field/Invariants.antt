@@ -1,0 +1,7 @@
+use Rattle.std.proofs.Common.{drop, ◌≡◌}
+use Rattle.snap_core.specs.Value.{value_at}
+use Rattle.snap_core.specs.View.{fields_view}
+use Rattle.plain_ops.proofs.operators.field.Given as goal
+
+abbrev pub invariant-loop-field : goal.invariant-loop-field
+invariant-loop-field l = value_at l.key (fields_view l.fields) ≡ value_at l.key (fields_view (drop l.field-index l.fields))
