@@ -14,7 +14,7 @@ use Rattle.httparse.proofs.OnLiterals.{httparse_on_literals}
 use Rattle.http_front.specs.Arrival.{whole, partial, refused, BeginsWithHead, MayBecomeHead}
 use Rattle.http_front.specs.Head.{NamedValue, values_of, body_length, given_length, bounded_length, is_length_text, lacks}
 use Rattle.http_front.specs.Request.{fields_of}
-use Rattle.http_front.specs.Laws.{FrontOfWhole, PartialIsShort, NothingIsPartial}
+use Rattle.http_front.specs.Laws.{FrontOfWhole, WholeIsShort, PartialIsShort, NothingIsPartial}
 use Rattle.http_front.proofs.LawLemmas.{whole_is_only, whole_stays}
 
 -- a head that is small enough stands in bytes that are as many
@@ -79,6 +79,10 @@ body-le : (fields : List NamedValue) (m : ℕ) → body_length fields ≡ Ok m �
 body-le fields m e =
     given-le (values_of (codes "content-length") fields) m
     (taken (lacks (codes "transfer-encoding") fields) (given_length (values_of (codes "content-length") fields)) 501 m e)
+
+pub whole_is_short : WholeIsShort
+whole_is_short bytes request a =
+    omega (arith, body-le (fields_of a.head) (length request.body) a.sized, a.begins.size, simp length-append at (ap length a.begins.reads.1))
 
 pub partial_is_short : PartialIsShort
 partial_is_short bytes (inl a) =

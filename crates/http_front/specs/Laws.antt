@@ -1,5 +1,5 @@
 -- What holds of arrivals whatever the bytes are.
-use Rattle.std.specs.Prelude.{◌≡◌, ℕ, ◌<◌, ◌⊎◌, List, [], ◌++◌, length}
+use Rattle.std.specs.Prelude.{◌≡◌, ℕ, ◌<◌, ◌≤◌, ◌⊎◌, List, [], ◌++◌, length}
 use Rattle.httparse.specs.Grammar.{RequestHead, ReadsRequest}
 use Rattle.http_front.specs.Request.{Request}
 use Rattle.http_front.specs.Arrival.{Arrival, whole, partial, Arrives, MayBecomeHead}
@@ -23,7 +23,10 @@ FrontOfWhole =
     → Arrives (bytes ++ more) (whole request rest) → Arrives bytes front
     → (front ≡ partial) ⊎ ((between : List ℕ) × (front ≡ whole request between) × (rest ≡ between ++ more))
 
--- what is the beginning of a request has fewer bytes than the largest request
+-- the largest request has 327,680 bytes, and what is the beginning of one has fewer
+abbrev pub WholeIsShort : Type 0
+WholeIsShort = (bytes : List ℕ) (request : Request) → Arrives bytes (whole request []) → length bytes ≤ 327680
+
 abbrev pub PartialIsShort : Type 0
 PartialIsShort = (bytes : List ℕ) → Arrives bytes partial → length bytes < 327680
 

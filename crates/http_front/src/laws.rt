@@ -1,4 +1,4 @@
-ghost use Rattle.http_front.specs.Laws.{WholeIsOnly, WholeStays, FrontOfWhole, PartialIsShort, NothingIsPartial, ArrivesOnce};
+ghost use Rattle.http_front.specs.Laws.{WholeIsOnly, WholeStays, FrontOfWhole, WholeIsShort, PartialIsShort, NothingIsPartial, ArrivesOnce};
 
 /// A request that has come whole is the only answer to its bytes.
 pub fn whole_is_only()
@@ -15,9 +15,10 @@ pub fn front_of_whole()
     ensures { FrontOfWhole }
 {}
 
-/// The beginning of a request has fewer bytes than the largest request.
-pub fn partial_is_short()
-    ensures { PartialIsShort }
+/// A request has at most 327,680 bytes, and the beginning of one has fewer.
+pub fn requests_are_short()
+    ensures whole { WholeIsShort }
+    ensures partial { PartialIsShort }
 {}
 
 /// No bytes are the beginning of a request, and nothing else.

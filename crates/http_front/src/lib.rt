@@ -20,7 +20,8 @@ mod reply;
 mod request;
 
 pub use laws::{
-    arrives_once, front_of_whole, nothing_is_partial, partial_is_short, whole_is_only, whole_stays,
+    arrives_once, front_of_whole, nothing_is_partial, requests_are_short, whole_is_only,
+    whole_stays,
 };
 pub use query::query_value;
 pub use reply::print_reply;
