@@ -3,12 +3,11 @@ use Rattle.std.specs.Prelude.{ℕ, List, [], ◌++◌, length, Bool, Option, Som
 use Rattle.http.specs.StatusCode.{reason_phrase}
 use Rattle.httparse.specs.Ascii.{crlf_bytes}
 
--- a reply in JSON: its status, the methods that it allows where it names them, its body, and whether the link closes after it
+-- a reply in JSON: its status, the methods that are allowed where it names them, and its body
 pub record Reply : Type 0 where
   pub status : ℕ
   pub allow : Option (List ℕ)
   pub body : List ℕ
-  pub close : Bool
 
 -- a line that ends in CR LF
 abbrev pub line : List ℕ → List ℕ
@@ -28,13 +27,13 @@ allow_line (Some methods) = line (codes "Allow: " ++ methods)
 abbrev pub connection_line : Bool → List ℕ
 connection_line close = if close then line (codes "Connection: close") else []
 
--- the bytes of a reply
-abbrev pub printed : Reply → List ℕ
-printed reply =
+-- the bytes of a reply, after which the link closes or doesn't
+unfoldable pub printed : Bool → Reply → List ℕ
+printed close reply =
     status_line reply.status
     ++ line (codes "Content-Type: application/json")
     ++ line (codes "Content-Length: " ++ decimal (length reply.body))
     ++ allow_line reply.allow
-    ++ connection_line reply.close
+    ++ connection_line close
     ++ line []
     ++ reply.body

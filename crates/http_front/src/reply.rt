@@ -10,6 +10,7 @@ use std::alloc::{AllocError, Global};
 
 /// The bytes of a reply in JSON, for a status that has a standard phrase. It names the methods that
 /// are allowed, where there are any to name, and with `close` it says that the link is closed after it.
+#[tactic(auto, unfolding(crate::specs::Reply::printed))]
 pub fn print_reply(
     alloc: Global,
     status: u16,
@@ -19,11 +20,10 @@ pub fn print_reply(
 ) -> Result<Bytes, AllocError>
     requires code { IsStatusCode status }
     requires phrase { IsSome (reason_phrase status) }
-    ensures { IfOk result (λ bytes. bytes ≡ printed (record {
+    ensures { IfOk result (λ bytes. bytes ≡ printed close (record {
       status = status;
       allow = option_copied allow.entry;
       body = body.now;
-      close = close;
     })) }
 {
     let mut head = first_lines(alloc, status, body.len())?;

@@ -1,0 +1,5 @@
+pub mod Told
+pub mod Writing
+pub mod Exchanging
+pub mod Turning
+pub mod Serving
