@@ -21,7 +21,7 @@ lacks name fields = length (values_of name fields) == 0
 abbrev pub is_length_text : List ℕ → Bool
 is_length_text value = nat_le 1 (length value) && nat_le (length value) 18 && list_all is_ascii_digit value
 
--- a body has at most 262,144 bytes: otherwise 413 (Content Too Large)
+-- a body has at most 262,144 bytes: otherwise 413 (Payload Too Large)
 abbrev pub bounded_length : ℕ → Result ℕ ℕ
 bounded_length n = if nat_le n 262144 then Ok n else Err 413
 

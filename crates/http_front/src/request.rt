@@ -44,7 +44,7 @@ pub enum Next<'a> {
 /// A head (RFC 9112) has at most 64 fields and 65,536 bytes; a larger one is 431 (Request Header
 /// Fields Too Large). Bytes that no head begins with are 400 (Bad Request). A coded body is 501 (Not
 /// Implemented), two lengths or one that isn't 1 to 18 digits are 400, and a body of more than 262,144
-/// bytes is 413 (Content Too Large). Without a length the body is empty.
+/// bytes is 413 (Payload Too Large). Without a length the body is empty.
 pub fn next_request(bytes: &[u8]) -> Next<'_>
     ensures arrives { Arrives bytes.now (arrival_of bytes.now result) }
     ensures used { UsesAtMost (length bytes.now) result }

@@ -1,5 +1,5 @@
 -- What came over a link and what was written to it, as reads and writes add to it.
-use Rattle.std.proofs.Common.{◌≡◌, ℕ, List, [], ◌++◌, append_assoc, append-nil, true, Option, Some, None, refl, sym, ◌∙◌, ap, subst}
+use Rattle.std.proofs.Common.{◌≡◌, ℕ, List, [], ◌++◌, append_assoc, append-nil, Option, Some, None, refl, sym, ◌∙◌, ap, subst}
 use Rattle.edge_core.specs.Door.{Link, Links, BothTold, Reads, Writes}
 use Rattle.link_core.specs.Exchange.{Exchanges, ExchangesAll}
 use Rattle.link_core.proofs.Told.{both-then}
@@ -28,8 +28,7 @@ exchanges_read came written piece old mid new x r =
     let same : record { left = x.left; written = x.earlier ++ written } ≡ record { left = piece ++ r.left; written = r.written } =
     stands old mid came written x _ r.before in
     let lefts : x.left ≡ piece ++ r.left = ap (λ (l : Link). l.left) same in
-    let texts : x.earlier ++ written ≡ r.written = ap (λ (l : Link). l.written) same in
-    (
+    let texts : x.earlier ++ written ≡ r.written = ap (λ (l : Link). l.written) same in (
       record {
         left = r.left;
         earlier = x.earlier;

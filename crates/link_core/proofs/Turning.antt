@@ -1,5 +1,5 @@
 -- Turns of a link, one after another.
-use Rattle.std.proofs.Common.{◌≡◌, ℕ, ◌+◌, List, [], ◌∷◌, ◌++◌, length, append-nil, refl, sym, ◌∙◌, ap, subst}
+use Rattle.std.proofs.Common.{◌≡◌, ℕ, List, [], ◌∷◌, ◌++◌, append-nil, refl, ◌∙◌, ap, subst}
 use Rattle.std.proofs.lemmas.Grind.{flat_map-append}
 use Rattle.http_front.specs.Laws.{WholeStays}
 use Rattle.link_core.specs.Link.{Replies, Stand, Turn, Takes, Turns, written_for, all_written}

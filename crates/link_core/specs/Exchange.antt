@@ -1,5 +1,5 @@
 -- What came over the open link and what was written to it, from one moment to another.
-use Rattle.std.specs.Prelude.{◌≡◌, ℕ, ◌<◌, List, [], ◌++◌, length, Bool, true, false, Option, Some, MatchBool}
+use Rattle.std.specs.Prelude.{◌≡◌, ℕ, ◌<◌, List, [], ◌++◌, length, Bool, true, false, Option, Some}
 use Rattle.edge_core.specs.Door.{Links, BothTold, Reads, Writes}
 
 -- the links before and after, where they are told

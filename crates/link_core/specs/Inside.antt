@@ -14,6 +14,12 @@ abbrev pub input_end : List ℕ → LinkEnd
 input_end [] = End
 input_end (b ∷ bytes) = Inside
 
+-- an end that a last reply makes
+abbrev pub IsByReply : LinkEnd → Type 0
+IsByReply Closed = ⊤
+IsByReply Memory = ⊤
+IsByReply _ = ⊥
+
 -- bytes were written, and the link ends as it is to; or a part of them, and it ends by a fault
 abbrev pub WritesLast : List ℕ → LinkEnd → LinkEnd → Told → Type 0
 WritesLast bytes end result told =

@@ -1,5 +1,5 @@
 -- One link: the requests that its bytes are, what is written for each, and how the link ends.
-use Rattle.std.specs.Prelude.{◌≡◌, ℕ, ◌<◌, ◌⊎◌, List, [], ◌∷◌, ◌++◌, length, Bool, true, false, ◌||◌, ◌==◌, Option, option_map}
+use Rattle.std.specs.Prelude.{◌≡◌, ℕ, ◌+◌, ◌<◌, ◌⊎◌, List, [], ◌∷◌, ◌++◌, length, Bool, true, false, ◌||◌, ◌==◌, Option, option_map}
 use Rattle.std.specs.List.{flat_map}
 use Rattle.edge_core.specs.Door.{Links, BothTold, after_shut}
 use Rattle.http_front.specs.Arrival.{Arrival, whole, partial, refused, Arrives}

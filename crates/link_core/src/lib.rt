@@ -15,7 +15,6 @@
 
 mod answers;
 mod end;
-mod laws;
 mod replies;
 mod room;
 mod serve;

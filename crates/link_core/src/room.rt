@@ -1,5 +1,5 @@
-ghost use Rattle.std.specs.Prelude.{◌≡◌, ◌≤◌, ◌<◌, ◌++◌, [], ℕ, List, length, drop, take, IfOk, OnErr, OnOk, IsTrue};
-ghost use Rattle.edge_core.specs.Door.{BothTold, DoorHasFailed, KeepsDoor};
+ghost use Rattle.std.specs.Prelude.{◌≡◌, ◌≤◌, ◌<◌, ◌+◌, ◌-◌, [], length, drop, take, IfOk, OnErr, OnOk, IsTrue};
+ghost use Rattle.edge_core.specs.Door.{BothTold, Reads, DoorHasFailed, KeepsDoor};
 ghost use Rattle.link_core.specs.Exchange.{ReadsMore};
 
 use edge_core::{Door, DoorFault};
@@ -68,25 +68,44 @@ impl Room {
         requires open { IsTrue (D.state door.old).is_open }
         requires space { length self.old < ROOM_BYTES }
         ensures ok { IfOk result (λ more. ReadsMore more self.old self.new (record {
-            before = (D.state door.old).links; after = (D.state door.new).links })) }
+          before = (D.state door.old).links;
+          after = (D.state door.new).links;
+        })) }
         ensures failed { OnErr result (DoorHasFailed (D.state door.old) (D.state door.new)) }
         ensures err { OnErr result ((D.state door.new).links ≡ (D.state door.old).links) }
         ensures keeps { KeepsDoor (D.state door.old) (D.state door.new) }
     {
-        self.move_to_front();
-        let n = door.read(&mut self.bytes[self.end..])?;
-        self.end += n;
+        let n = read_on(door, &mut self.bytes, self.start, self.end)?;
+        self.end = self.end - self.start + n;
+        self.start = 0;
         Ok(n > 0)
     }
+}
 
-    // Moves the bytes that are held to the front of the room.
-    fn move_to_front(&mut self)
-        ensures held { self.new ≡ self.old }
-    {
-        self.bytes.copy_within(self.start..self.end, 0);
-        self.end -= self.start;
-        self.start = 0;
-    }
+// Moves the bytes between two places to the front of a room, reads once behind them, and answers how
+// many came.
+fn read_on<D: Door>(
+    door: &mut D,
+    room: &mut [u8],
+    start: usize,
+    end: usize,
+) -> Result<usize, DoorFault>
+    requires open { IsTrue (D.state door.old).is_open }
+    requires ordered { start ≤ end }
+    requires within { end ≤ length room.old }
+    requires space { end - start < length room.old }
+    ensures len { length room.new ≡ length room.old }
+    ensures in_room { IfOk result (λ n. end - start + n ≤ length room.new) }
+    ensures kept { take (end - start) room.new ≡ take (end - start) (drop start room.old) }
+    ensures reads { IfOk result (λ n. BothTold (Reads (take n (drop (end - start) room.new)))
+        (D.state door.old).links (D.state door.new).links) }
+    ensures failed { OnErr result (DoorHasFailed (D.state door.old) (D.state door.new)) }
+    ensures err { OnErr result ((D.state door.new).links ≡ (D.state door.old).links) }
+    ensures keeps { KeepsDoor (D.state door.old) (D.state door.new) }
+{
+    let held = end - start;
+    room.copy_within(start..end, 0);
+    door.read(&mut room[held..])
 }
 
 fn zeros(alloc: Global) -> Result<Vec<u8>, AllocError>

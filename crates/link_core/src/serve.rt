@@ -1,5 +1,5 @@
 //! One link, from its first byte to its end.
-ghost use Rattle.std.specs.Prelude.{◌≡◌, ◌≤◌, false, true, [], length, IsTrue, IfOk, IfErr, OnErr};
+ghost use Rattle.std.specs.Prelude.{◌≡◌, ◌<◌, ◌≤◌, ◌-◌, false, true, [], length, IsTrue, IfOk, IfErr, OnErr};
 ghost use Rattle.edge_core.specs.Door.{BothTold, KeepsAttachment, KeepsDoor};
 ghost use Rattle.http_front.specs.Answer.{IsHeadStatus};
 ghost use Rattle.http_front.specs.Arrival.{whole, partial, refused, Arrives};
@@ -13,7 +13,9 @@ use crate::replies::{memory_bytes, print_refusal};
 use crate::room::Room;
 use crate::write::write_all;
 use edge_core::Door;
-use http_front::{Next, Request, next_request, nothing_is_partial, requests_are_short, whole_stays};
+use http_front::{
+    Next, Request, next_request, nothing_is_partial, requests_are_short, whole_stays,
+};
 use snap_core::Bytes;
 use std::alloc::{AllocError, Global};
 
@@ -29,8 +31,11 @@ pub fn serve_link<A: Answers, D: Door>(
     room: &mut Room,
 ) -> LinkEnd
     requires open { IsTrue (D.state door.old).is_open }
-    ensures serves { link.Serves A.replies (record { before = answers.old; after = answers.new;
-        links = record { before = (D.state door.old).links; after = (D.state door.new).links } }) result }
+    ensures serves { link.Serves A.replies (record {
+      before = answers.old;
+      after = answers.new;
+      links = record { before = (D.state door.old).links; after = (D.state door.new).links };
+    }) result }
     ensures failed { inside.IfFault result (D.state door.old) (D.state door.new) }
     ensures none_open { (D.state door.new).is_open ≡ false }
     ensures keeps { KeepsAttachment (D.state door.old) (D.state door.new) }
@@ -48,8 +53,11 @@ fn serve_open<A: Answers, D: Door>(
     room: &mut Room,
 ) -> LinkEnd
     requires open { IsTrue (D.state door.old).is_open }
-    ensures serves { link.IsServed A.replies (record { before = answers.old; after = answers.new;
-        links = record { before = (D.state door.old).links; after = (D.state door.new).links } }) result }
+    ensures serves { link.IsServed A.replies (record {
+      before = answers.old;
+      after = answers.new;
+      links = record { before = (D.state door.old).links; after = (D.state door.new).links };
+    }) result }
     ensures failed { inside.IfFault result (D.state door.old) (D.state door.new) }
     ensures keeps { KeepsDoor (D.state door.old) (D.state door.new) }
 {
@@ -60,10 +68,7 @@ fn serve_open<A: Answers, D: Door>(
     loop {
         match next_request(room.held()) {
             Next::Found { request, used } => {
-                let request = Request {
-                    close: request.close || left == 1,
-                    ..request
-                };
+                let request = asked(request, left);
                 if let Some(end) = give_reply(answers, door, &request) {
                     return end;
                 }
@@ -77,6 +82,18 @@ fn serve_open<A: Answers, D: Door>(
             },
             Next::Bad { status } => return refuse(alloc, door, status),
         }
+    }
+}
+
+// A request as it is asked where so many can still be answered: the last of them closes the link.
+fn asked<'a>(request: Request<'a>, left: usize) -> Request<'a>
+    requires some { 0 < left }
+    requires most { left ≤ MOST_REQUESTS }
+    ensures { seen result ≡ link.asked (MOST_REQUESTS - left) (seen request.entry) }
+{
+    Request {
+        close: request.close || left == 1,
+        ..request
     }
 }
 
@@ -98,8 +115,11 @@ fn give_reply<A: Answers, D: Door>(
     request: &Request<'_>,
 ) -> Option<LinkEnd>
     requires open { IsTrue (D.state door.old).is_open }
-    ensures gives { inside.GivesReply A.replies (seen request.now) (record { before = answers.old; after = answers.new;
-        links = record { before = (D.state door.old).links; after = (D.state door.new).links } }) result }
+    ensures gives { inside.GivesReply A.replies (seen request.now) (record {
+      before = answers.old;
+      after = answers.new;
+      links = record { before = (D.state door.old).links; after = (D.state door.new).links };
+    }) result }
     ensures failed { inside.IfStops result (D.state door.old) (D.state door.new) }
     ensures keeps { KeepsDoor (D.state door.old) (D.state door.new) }
 {
@@ -113,7 +133,9 @@ fn give_reply<A: Answers, D: Door>(
 fn write_reply<D: Door>(door: &mut D, bytes: &[u8], close: bool) -> Option<LinkEnd>
     requires open { IsTrue (D.state door.old).is_open }
     ensures writes { inside.WritesReply bytes.now close result (record {
-        before = (D.state door.old).links; after = (D.state door.new).links }) }
+      before = (D.state door.old).links;
+      after = (D.state door.new).links;
+    }) }
     ensures failed { inside.IfStops result (D.state door.old) (D.state door.new) }
     ensures keeps { KeepsDoor (D.state door.old) (D.state door.new) }
 {
@@ -127,10 +149,14 @@ fn write_reply<D: Door>(door: &mut D, bytes: &[u8], close: bool) -> Option<LinkE
 }
 
 // Writes the last bytes of a link, which then ends so.
+#[tactic(auto, using(crate::proofs::Serving::no_fault))]
 fn write_last<D: Door>(door: &mut D, bytes: &[u8], end: LinkEnd) -> LinkEnd
     requires open { IsTrue (D.state door.old).is_open }
+    requires end { inside.IsByReply end }
     ensures writes { inside.WritesLast bytes.now end result (record {
-        before = (D.state door.old).links; after = (D.state door.new).links }) }
+      before = (D.state door.old).links;
+      after = (D.state door.new).links;
+    }) }
     ensures failed { inside.IfFault result (D.state door.old) (D.state door.new) }
     ensures keeps { KeepsDoor (D.state door.old) (D.state door.new) }
 {
@@ -145,7 +171,9 @@ fn refuse<D: Door>(alloc: Global, door: &mut D, status: u16) -> LinkEnd
     requires open { IsTrue (D.state door.old).is_open }
     requires status { IsHeadStatus status }
     ensures writes { inside.Refuses status result (record {
-        before = (D.state door.old).links; after = (D.state door.new).links }) }
+      before = (D.state door.old).links;
+      after = (D.state door.new).links;
+    }) }
     ensures failed { inside.IfFault result (D.state door.old) (D.state door.new) }
     ensures keeps { KeepsDoor (D.state door.old) (D.state door.new) }
 {

@@ -12,7 +12,9 @@ pub(crate) fn write_all<D: Door>(door: &mut D, bytes: &[u8]) -> Result<(), DoorF
     ensures took { OnOk result (BothTold (Writes bytes.now) (D.state door.old).links (D.state door.new).links) }
     ensures failed { OnErr result (DoorHasFailed (D.state door.old) (D.state door.new)) }
     ensures part { OnErr result (TakesPart bytes.now (record {
-        before = (D.state door.old).links; after = (D.state door.new).links })) }
+      before = (D.state door.old).links;
+      after = (D.state door.new).links;
+    })) }
     ensures keeps { KeepsDoor (D.state door.old) (D.state door.new) }
 {
     let mut written = 0;
