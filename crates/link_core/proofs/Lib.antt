@@ -1,3 +1,4 @@
+pub mod Completing
 pub mod Told
 pub mod Writing
 pub mod Exchanging

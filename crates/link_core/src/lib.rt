@@ -15,6 +15,7 @@
 
 mod answers;
 mod end;
+mod laws;
 mod replies;
 mod room;
 mod serve;
@@ -22,5 +23,6 @@ mod write;
 
 pub use answers::Answers;
 pub use end::LinkEnd;
+pub use laws::link_completes;
 pub use room::Room;
 pub use serve::serve_link;

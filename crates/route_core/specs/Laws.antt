@@ -1,8 +1,7 @@
 -- What some paths name.
-use Rattle.std.specs.Prelude.{◌≡◌, ℕ, List, codes, Some, None}
+use Rattle.std.specs.Prelude.{◌≡◌, ℕ, List, Some, None}
 use Rattle.route_core.specs.Path.{place_of}
-use Rattle.route_core.specs.Place.{Place, check, names, document}
-use Rattle.route_core.specs.declared.place.Part.TheVariants.{Whole, Snapshot, Patches, Reference}
+use Rattle.route_core.specs.Place.{Place}
 
 -- a path names a place
 abbrev pub PathNames : List ℕ → Place → Type 0

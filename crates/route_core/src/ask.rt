@@ -38,7 +38,7 @@ pub enum Asked<'p> {
 }
 
 pub(crate) fn asked_at<'p>(place: Place<'p>, method: &[u8]) -> Asked<'p>
-    ensures { seen result ≡ asked_at (seen_place place) method.now }
+    ensures { seen result ≡ asked_at (seen_place place.entry) method.now }
 {
     match place {
         Place::Check => by_one(method, "POST", Ask::Try),
@@ -70,7 +70,7 @@ fn asked_of<'p>(name: &'p str, part: Part, method: &[u8]) -> Asked<'p>
 
 // What is asked where one method is taken.
 fn by_one<'p>(method: &[u8], taken: &'static str, ask: Ask<'p>) -> Asked<'p>
-    ensures { seen result ≡ asked_by_one taken.now (seen_ask ask) method.now }
+    ensures { seen result ≡ asked_by_one taken.now (seen_ask ask.entry) method.now }
 {
     if method == taken.as_bytes() {
         Asked::Well(ask)
