@@ -20,7 +20,7 @@ impl Answers for Paths {
 }
 
 /// A door with one link that brings these bytes, in pieces of at most `cut`.
-fn door_of(alloc: Global, input: &[u8], cut: u32) -> Result<MemoryDoor, AllocError> {
+fn door_of(alloc: Global, input: &[u8], cut: usize) -> Result<MemoryDoor, AllocError> {
     let mut inputs = Inputs::new(alloc);
     inputs.push(Bytes::from_slice(alloc, input)?)?;
     MemoryDoor::new(alloc, inputs, cut, 400, Calls::new(alloc))
@@ -52,7 +52,10 @@ fn a_link_is_served_request_by_request(rt: HostRuntime) -> Result<(), Fail> {
             let end = serve_link(alloc, &mut Paths(alloc), &mut door, &mut room);
             assert_eq!(rt; end, want, "{input} by {cut}");
             let written = format!(in alloc; "{REPLIES}{last}")?;
-            assert!(rt; door.written(0) == Some(written.as_bytes()), "{input} by {cut}");
+            assert!(rt;
+                door.written(0) == Some(written.as_bytes()),
+                "{input} by {cut}"
+            );
         }
     }
     Ok(())

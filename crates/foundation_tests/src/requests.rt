@@ -4,8 +4,7 @@ use http_front::{
 };
 use std::test::Fail;
 
-const REQUEST: &[u8] =
-    b"PUT /docs/a?path=/x%20y&path=z HTTP/1.0\r\nContent-Length: 2\r\n\r\n{}P";
+const REQUEST: &[u8] = b"PUT /docs/a?path=/x%20y&path=z HTTP/1.0\r\nContent-Length: 2\r\n\r\n{}P";
 
 #[test]
 fn reads_a_request(rt: HostRuntime) -> Result<(), Fail> {
@@ -13,10 +12,10 @@ fn reads_a_request(rt: HostRuntime) -> Result<(), Fail> {
         assert!(rt; false, "a request stands there");
         return Ok(());
     };
-    assert_eq!(rt; request.method, b"PUT");
-    assert_eq!(rt; request.path, b"/docs/a");
-    assert_eq!(rt; request.query, b"path=/x%20y&path=z");
-    assert_eq!(rt; request.body, b"{}");
+    assert_eq!(rt; request.method, b"PUT".as_slice());
+    assert_eq!(rt; request.path, b"/docs/a".as_slice());
+    assert_eq!(rt; request.query, b"path=/x%20y&path=z".as_slice());
+    assert_eq!(rt; request.body, b"{}".as_slice());
     assert_eq!(rt; (request.close, used), (true, 64));
     Ok(())
 }
