@@ -1,5 +1,5 @@
 //! Tests of the crates below the types, by their public calls: `list_core`, `snap_core`,
-//! `pointer_core`, `edge_core`, `http_front` and `snap_json`. They stand apart, since a crate that has
+//! `pointer_core`, `edge_core`, `http_front`, `link_core` and `snap_json`. They stand apart, since a crate that has
 //! tests is proved twice.
 #![tactic(auto)]
 
@@ -7,6 +7,8 @@
 mod door;
 #[cfg(test)]
 mod json;
+#[cfg(test)]
+mod links;
 #[cfg(test)]
 mod parts;
 #[cfg(test)]

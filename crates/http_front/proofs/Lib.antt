@@ -1,3 +1,3 @@
-pub mod ArrivalLemmas
+pub mod FrontLemmas
+pub mod HeadLemmas
 pub mod LawLemmas
-pub mod NumberLemmas

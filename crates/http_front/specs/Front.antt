@@ -1,26 +1,41 @@
--- What the code found at the front of the first bytes of a link.
-use Rattle.std.specs.Prelude.{◌≡◌, ℕ, ◌≤◌, List, length, drop, Option}
-use Rattle.httparse.specs.Grammar.{RequestHead, HasNoRequest, MayBecomeRequest}
-use Rattle.httparse.specs.Spans.{RequestOverflows}
-use Rattle.http_front.specs.declared.request.Front.{Front}
-use Rattle.http_front.specs.declared.request.Front.TheVariants.{Head, Unfinished, Never}
-use Rattle.http_front.specs.Arrival.{BeginsWithHead}
-use Rattle.http_front.specs.Head.{body_length}
+-- Words of private clauses: what the code has found of a head.
+use Rattle.std.specs.Prelude.{◌≡◌, ℕ, ◌≤◌, List, [], ◌∷◌, length, map, All, Result, Ok, Err, ⊤}
+use Rattle.httparse.specs.Grammar.{RequestHead}
+use Rattle.httparse.specs.Spans.{IsWithin, IsHeaderWithin, IsRequestWithin, IsRequestAt, header_bytes, span_bytes}
+use Rattle.httparse.specs.declared.spans.HeaderSpan.{HeaderSpan}
+use Rattle.httparse.specs.declared.spans.RequestSpans.{RequestSpans}
+use Rattle.http_front.specs.declared.fields.Values.{Values}
+use Rattle.http_front.specs.declared.fields.Values.TheVariants.{Absent, One, Several}
+use Rattle.http_front.specs.Answer.{IsHeadStatus}
+use Rattle.http_front.specs.Request.{fields_of}
 
--- a head of this length stands at the front, and its body's length, where it is taken
-pub record HasHeadOf (buf : List ℕ) (len : ℕ) (body : Option ℕ) : Type 0 where
+-- a head of at most as many fields as there are headers was found at the front of the bytes
+pub record IsHeadFound (bytes : List ℕ) (headers : List HeaderSpan) (spans : RequestSpans) : Type 0 where
+  pub within : IsRequestWithin bytes headers spans
   pub head : RequestHead
-  pub begins : BeginsWithHead buf head (drop len buf)
-  pub within : len ≤ length buf
-  pub length_is : body ≡ body_length head
+  pub found : IsRequestAt bytes headers spans head
+  pub room : length headers ≡ 64
 
--- no head stands at the front, and one can still come
-pub record IsUnfinished (buf : List ℕ) : Type 0 where
-  pub none : HasNoRequest buf
-  pub may : MayBecomeRequest buf
+-- the spans of a head and of its fields lie in so many bytes
+pub record HasSpans (len : ℕ) (headers : List HeaderSpan) (spans : RequestSpans) : Type 0 where
+  pub method : IsWithin len spans.method
+  pub target : IsWithin len spans.path
+  pub fields : All (IsHeaderWithin len) headers
 
--- a head, the beginning of one, or bytes that no head of at most 64 fields begins with
-abbrev pub IsFront : List ℕ → Front → Type 0
-IsFront buf (Head len body) = HasHeadOf buf len body
-IsFront buf Unfinished = IsUnfinished buf
-IsFront buf Never = RequestOverflows 64 buf
+-- the spans are those of this head and of all its fields
+pub record CoversHead (bytes : List ℕ) (headers : List HeaderSpan) (spans : RequestSpans) (head : RequestHead) : Type 0 where
+  pub method : span_bytes bytes spans.method ≡ head.method
+  pub target : span_bytes bytes spans.path ≡ head.target
+  pub minor : spans.version ≡ head.minor
+  pub fields : map (header_bytes bytes) headers ≡ fields_of head
+
+-- these are all the values: none, this one, or two and more
+abbrev pub AreValues : Values → List (List ℕ) → Type 0
+AreValues Absent values = values ≡ []
+AreValues (One value) values = values ≡ value.now ∷ []
+AreValues Several values = 2 ≤ length values
+
+-- an error is the status of a refusal
+abbrev pub IfRefused : Result ℕ ℕ → Type 0
+IfRefused (Ok length) = ⊤
+IfRefused (Err status) = IsHeadStatus status

@@ -1,11 +1,9 @@
--- Which heads of requests are taken, and how long the body after them is.
-use Rattle.std.specs.Prelude.{ℕ, List, [], ◌∷◌, length, map, filter, Bool, ◌&&◌, ◌==◌, nat_le, if◌then◌else◌, Option, Some, None, codes}
+-- How long the body after a head is.
+use Rattle.std.specs.Prelude.{ℕ, List, [], ◌∷◌, length, map, filter, Bool, ◌&&◌, ◌==◌, nat_le, if◌then◌else◌, Result, Ok, Err, codes}
 use Rattle.std.specs.Char.{is_ascii_digit}
 use Rattle.std.specs.List.{list_all}
-use Rattle.std.specs.Str.{bytes_eq, str_eq_ignore_ascii_case}
+use Rattle.std.specs.Str.{str_eq_ignore_ascii_case}
 use Rattle.std.specs.Str.Parse.{digits_value}
-use Rattle.httparse.specs.Grammar.{RequestHead}
-use Rattle.httparse.specs.Spans.{name_and_value}
 
 -- a field's name, and its value without the white space around it
 abbrev pub NamedValue : Type 0
@@ -19,38 +17,28 @@ values_of name fields = map (λ f. f.1) (filter (λ f. str_eq_ignore_ascii_case 
 abbrev pub lacks : List ℕ → List NamedValue → Bool
 lacks name fields = length (values_of name fields) == 0
 
--- the number that the digits write, where each byte is one and the number is at most 262144
-abbrev pub number_of : List ℕ → Option ℕ
-number_of digits =
-    if list_all is_ascii_digit digits && nat_le (digits_value 10 digits) 262144
-    then Some (digits_value 10 digits) else None
-
 -- a length is written in 1 to 18 digits
-abbrev pub written_length : List ℕ → Option ℕ
+abbrev pub is_length_text : List ℕ → Bool
+is_length_text value = nat_le 1 (length value) && nat_le (length value) 18 && list_all is_ascii_digit value
+
+-- a body has at most 262,144 bytes: otherwise 413 (Payload Too Large)
+abbrev pub bounded_length : ℕ → Result ℕ ℕ
+bounded_length n = if nat_le n 262144 then Ok n else Err 413
+
+-- the length that a value of Content-Length writes: otherwise 400 (Bad Request)
+abbrev pub written_length : List ℕ → Result ℕ ℕ
 written_length value =
-    if nat_le 1 (length value) && nat_le (length value) 18 then number_of value else None
+    if is_length_text value then bounded_length (digits_value 10 value) else Err 400
 
--- the length where one field alone gives it
-abbrev pub only_length : List (List ℕ) → Option ℕ
-only_length [] = None
-only_length (value ∷ []) = written_length value
-only_length (value ∷ other ∷ values) = None
+-- the length that the values of Content-Length give: none is an empty body, and two are 400 (Bad Request)
+abbrev pub given_length : List (List ℕ) → Result ℕ ℕ
+given_length [] = Ok 0
+given_length (value ∷ []) = written_length value
+given_length (value ∷ other ∷ values) = Err 400
 
--- no field says that the body is coded, or what becomes of the link
-abbrev pub is_plain : List NamedValue → Bool
-is_plain fields = lacks (codes "transfer-encoding") fields && lacks (codes "connection") fields
-
--- the start line is `POST /check HTTP/1.1`
-abbrev pub is_check : List ℕ → List ℕ → ℕ → Bool
-is_check method target minor =
-    bytes_eq method (codes "POST") && bytes_eq target (codes "/check") && minor == 1
-
--- the body's length that a start line and its fields give, where they are taken
-abbrev pub length_given : List ℕ → List ℕ → ℕ → List NamedValue → Option ℕ
-length_given method target minor fields =
-    if is_check method target minor && is_plain fields
-    then only_length (values_of (codes "content-length") fields) else None
-
--- the body's length, where the head is one that is taken
-abbrev pub body_length : RequestHead → Option ℕ
-body_length head = length_given head.method head.target head.minor (map name_and_value head.fields)
+-- The length of the body after these fields, or the status of the refusal: a coded body is 501 (Not Implemented), whatever its
+-- length.
+abbrev pub body_length : List NamedValue → Result ℕ ℕ
+body_length fields =
+    if lacks (codes "transfer-encoding") fields
+    then given_length (values_of (codes "content-length") fields) else Err 501

@@ -1,12 +1,18 @@
-ghost use Rattle.std.specs.Prelude.{◌≡◌, ℕ, List, [], ◌∷◌, ◌++◌, length, map, codes, All};
+ghost use Rattle.std.specs.Prelude.{◌≡◌, ℕ, ◌≤◌, List, ◌∷◌, [], ◌++◌, length, map, codes, All, IsTrue, Ok};
+ghost use Rattle.std.specs.Char.{is_ascii_digit};
+ghost use Rattle.std.specs.List.{list_all, list_any};
 ghost use Rattle.std.specs.Str.{str_eq_ignore_ascii_case};
-ghost use Rattle.httparse.specs.Spans.{IsWithin, IsHeaderWithin, header_bytes, span_bytes};
-ghost use Rattle.http_front.specs.Fields.{AreValues};
-ghost use Rattle.http_front.specs.Head.{values_of, number_of, written_length, only_length, length_given, is_plain, lacks};
+ghost use Rattle.std.specs.Str.Parse.{digits_value};
+ghost use Rattle.httparse.specs.Spans.{IsHeaderWithin, header_bytes};
+ghost use Rattle.http_front.specs.Front.{AreValues, IfRefused};
+ghost use Rattle.http_front.specs.Head as spec;
+ghost use Rattle.http_front.specs.Request.{is_close, closes};
 
-use httparse::spans::{HeaderSpan, RequestSpans};
+use httparse::spans::HeaderSpan;
 
 const MOST_BODY_BYTES: usize = 262_144;
+
+const MOST_LENGTH_DIGITS: usize = 18;
 
 // The values of all fields of one name.
 #[derive(Clone, Copy)]
@@ -16,57 +22,60 @@ enum Values<'b> {
     Several,
 }
 
-/// The length of the body after a head, where the head is taken.
-pub fn body_length(buf: &[u8], spans: &RequestSpans, headers: &[HeaderSpan]) -> Option<usize>
-    requires method { IsWithin (length buf.now) spans.now.method }
-    requires path { IsWithin (length buf.now) spans.now.path }
-    requires headers { All (IsHeaderWithin (length buf.now)) headers.now }
-    ensures { result ≡ length_given (span_bytes buf.now spans.now.method)
-        (span_bytes buf.now spans.now.path) spans.now.version
-        (map (header_bytes buf.now) headers.now) }
+/// The length of the body after a head of these fields, or the status of the refusal.
+pub fn body_length(buf: &[u8], headers: &[HeaderSpan]) -> Result<usize, u16>
+    requires { All (IsHeaderWithin (length buf.now)) headers.now }
+    ensures length { result ≡ spec.body_length (map (header_bytes buf.now) headers.now) }
+    ensures status { IfRefused result }
 {
-    let is_check = spans.method.of(buf) == b"POST".as_slice()
-        && spans.path.of(buf) == b"/check".as_slice()
-        && spans.version == 1;
-    if is_check && is_plain(buf, headers) {
-        given_length(buf, headers)
-    } else {
-        None
+    match find_values(buf, headers, b"transfer-encoding") {
+        Values::Absent => given_length(find_values(buf, headers, b"content-length")),
+        Values::One(_) | Values::Several => Err(501),
     }
 }
 
-fn is_plain(buf: &[u8], headers: &[HeaderSpan]) -> bool
+/// Whether the link closes after the reply to a head of this minor version and these fields.
+pub fn closes(buf: &[u8], minor: u8, headers: &[HeaderSpan]) -> bool
     requires { All (IsHeaderWithin (length buf.now)) headers.now }
-    ensures { result ≡ is_plain (map (header_bytes buf.now) headers.now) }
+    ensures { result ≡ closes minor (map (header_bytes buf.now) headers.now) }
 {
-    is_absent(buf, headers, b"transfer-encoding") && is_absent(buf, headers, b"connection")
+    minor == 0 || has_close(buf, headers)
 }
 
-fn is_absent(buf: &[u8], headers: &[HeaderSpan], name: &[u8]) -> bool
+fn has_close(buf: &[u8], headers: &[HeaderSpan]) -> bool
     requires { All (IsHeaderWithin (length buf.now)) headers.now }
-    ensures { result ≡ lacks name.now (map (header_bytes buf.now) headers.now) }
+    ensures { result ≡ list_any is_close
+        (spec.values_of (codes "connection") (map (header_bytes buf.now) headers.now)) }
 {
-    matches!(find_values(buf, headers, name), Values::Absent)
+    let mut found = false;
+    for header in headers {
+        if is_same_word(header.name.of(buf), b"connection")
+            && is_same_word(header.value.of(buf), b"close")
+        {
+            found = true;
+        }
+    }
+    found
 }
 
-fn given_length(buf: &[u8], headers: &[HeaderSpan]) -> Option<usize>
-    requires { All (IsHeaderWithin (length buf.now)) headers.now }
-    ensures { result ≡ only_length
-        (values_of (codes "content-length") (map (header_bytes buf.now) headers.now)) }
+fn given_length(values: Values<'_>) -> Result<usize, u16>
+    ensures length { (all : List (List ℕ)) → AreValues values.entry all → result ≡ spec.given_length all }
+    ensures status { IfRefused result }
 {
-    match find_values(buf, headers, b"content-length") {
-        Values::One(value) => read_length(value),
-        Values::Absent | Values::Several => None,
+    match values {
+        Values::Absent => Ok(0),
+        Values::One(value) => written_length(value),
+        Values::Several => Err(400),
     }
 }
 
 fn find_values<'b>(buf: &'b [u8], headers: &[HeaderSpan], name: &[u8]) -> Values<'b>
     requires { All (IsHeaderWithin (length buf.now)) headers.now }
-    ensures { AreValues result (values_of name.now (map (header_bytes buf.now) headers.now)) }
+    ensures { AreValues result (spec.values_of name.now (map (header_bytes buf.now) headers.now)) }
 {
     let mut found = Values::Absent;
     for header in headers {
-        if is_named(header.name.of(buf), name) {
+        if is_same_word(header.name.of(buf), name) {
             found = one_more(found, header.value.of(buf));
         }
     }
@@ -83,33 +92,47 @@ fn one_more<'b>(found: Values<'b>, value: &'b [u8]) -> Values<'b>
     }
 }
 
-fn is_named(field: &[u8], name: &[u8]) -> bool
-    ensures { result ≡ str_eq_ignore_ascii_case field.now name.now }
+fn is_same_word(word: &[u8], other: &[u8]) -> bool
+    ensures { result ≡ str_eq_ignore_ascii_case word.now other.now }
 {
-    field.eq_ignore_ascii_case(name)
+    word.eq_ignore_ascii_case(other)
 }
 
-fn read_length(value: &[u8]) -> Option<usize>
-    ensures { result ≡ written_length value.now }
+fn written_length(value: &[u8]) -> Result<usize, u16>
+    ensures length { result ≡ spec.written_length value.now }
+    ensures status { IfRefused result }
 {
-    if value.is_empty() || value.len() > 18 {
-        return None;
+    if is_length_text(value) {
+        read_number(value)
+    } else {
+        Err(400)
     }
-    read_number(value)
 }
 
-fn read_number(digits: &[u8]) -> Option<usize>
-    ensures { result ≡ number_of digits.now }
+fn is_length_text(value: &[u8]) -> bool
+    ensures { result ≡ spec.is_length_text value.now }
+{
+    !value.is_empty() && value.len() <= MOST_LENGTH_DIGITS && are_digits(value)
+}
+
+fn are_digits(value: &[u8]) -> bool
+    ensures { result ≡ list_all is_ascii_digit value.now }
+{
+    value.iter().all(u8::is_ascii_digit)
+}
+
+// The number that digits write, where a body may have as many bytes.
+fn read_number(digits: &[u8]) -> Result<usize, u16>
+    requires { IsTrue (list_all is_ascii_digit digits.now) }
+    ensures length { result ≡ spec.bounded_length (digits_value 10 digits.now) }
+    ensures status { IfRefused result }
 {
     let mut number = 0;
     for digit in digits {
-        if !digit.is_ascii_digit() {
-            return None;
-        }
         number = number * 10 + usize::from(*digit - b'0');
         if number > MOST_BODY_BYTES {
-            return None;
+            return Err(413);
         }
     }
-    Some(number)
+    Ok(number)
 }

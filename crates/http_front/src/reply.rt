@@ -1,46 +1,50 @@
-ghost use Rattle.std.specs.Prelude.{◌≡◌, [], ◌++◌, length, codes, decimal, unwrap_or, IfOk, IsSome, Some};
+ghost use Rattle.std.specs.Prelude.{◌≡◌, [], ◌++◌, codes, decimal, unwrap_or, IfOk, OnOk, IsSome};
+ghost use Rattle.std.specs.Option.{option_copied};
 ghost use Rattle.std.specs.String.{string_bytes};
 ghost use Rattle.http.specs.StatusCode.{IsStatusCode, reason_phrase};
-ghost use Rattle.http_front.specs.Reply.{reply_bytes, connection_line, status_line, line};
+ghost use Rattle.http_front.specs.Reply.{printed, connection_line, allow_line, status_line, line};
 
 use http::StatusCode;
 use snap_core::Bytes;
 use std::alloc::{AllocError, Global};
 
-/// The bytes of a reply in JSON, for a status that has a standard phrase. With `close` it says that
-/// the link is closed after it.
+/// The bytes of a reply in JSON, for a status that has a standard phrase. It names the methods that
+/// are allowed, where there are any to name, and with `close` it says that the link is closed after it.
+#[tactic(auto, unfolding(crate::specs::Reply::printed))]
 pub fn print_reply(
     alloc: Global,
     status: u16,
+    allow: Option<&str>,
     close: bool,
     body: &[u8],
 ) -> Result<Bytes, AllocError>
     requires code { IsStatusCode status }
     requires phrase { IsSome (reason_phrase status) }
-    ensures { IfOk result (λ bytes. bytes ≡ reply_bytes status close body.now) }
+    ensures { IfOk result (λ bytes. bytes ≡ printed close (record {
+      status = status;
+      allow = option_copied allow.entry;
+      body = body.now;
+    })) }
 {
-    let mut bytes = print_head(alloc, status, close, body.len())?.into_bytes();
+    let mut head = first_lines(alloc, status, body.len())?;
+    add_allow(&mut head, allow)?;
+    head.push_str(connection_text(close))?;
+    head.push_str("\r\n")?;
+    let mut bytes = head.into_bytes();
     bytes.extend_from_slice(body)?;
     Ok(Bytes::from_vec(bytes))
 }
 
-// A reply's bytes up to its body.
-fn print_head(
-    alloc: Global,
-    status: u16,
-    close: bool,
-    body_len: usize,
-) -> Result<String, AllocError>
+// The lines that each reply begins with.
+fn first_lines(alloc: Global, status: u16, body_len: usize) -> Result<String, AllocError>
     requires { IsStatusCode status }
     ensures { IfOk result (λ head. string_bytes head ≡ status_line status
         ++ line (codes "Content-Type: application/json")
-        ++ line (codes "Content-Length: " ++ decimal body_len)
-        ++ connection_line close ++ line []) }
+        ++ line (codes "Content-Length: " ++ decimal body_len)) }
 {
     let phrase = phrase_of(status);
-    let connection = connection_text(close);
     format!(in alloc;
-        "HTTP/1.1 {status} {phrase}\r\nContent-Type: application/json\r\nContent-Length: {body_len}\r\n{connection}\r\n"
+        "HTTP/1.1 {status} {phrase}\r\nContent-Type: application/json\r\nContent-Length: {body_len}\r\n"
     )
 }
 
@@ -52,6 +56,18 @@ fn phrase_of(status: u16) -> &'static str
         Ok(code) => code.canonical_reason().unwrap_or(""),
         Err(_) => "",
     }
+}
+
+fn add_allow(head: &mut String, allow: Option<&str>) -> Result<(), AllocError>
+    ensures { OnOk result (string_bytes head.new
+        ≡ string_bytes head.old ++ allow_line (option_copied allow.entry)) }
+{
+    let Some(methods) = allow else {
+        return Ok(());
+    };
+    head.push_str("Allow: ")?;
+    head.push_str(methods)?;
+    head.push_str("\r\n")
 }
 
 fn connection_text(close: bool) -> &'static str

@@ -1,24 +1,17 @@
 -- A whole request on a link gets its reply.
-use Rattle.std.proofs.Common.{◌≡◌, ℕ, ◌+◌, ◌<◌, ◌≤◌, ◌⊎◌, inl, inr, List, [], ◌∷◌, ◌++◌, length, length-append, append-nil, map, Bool, true, false, ◌&&◌, cond, Option, Some, None, refl, sym, ◌∙◌, ap, subst, arith}
-use Rattle.std.specs.Prelude.{IsSomeAnd, nat_le, codes}
-use Rattle.std.proofs.lemmas.Bool.{leb-true}
-use Rattle.std.proofs.lemmas.Option.{same_Some}
-use Rattle.std.specs.List.{list_all}
-use Rattle.std.specs.Char.{is_ascii_digit}
-use Rattle.std.specs.Str.Parse.{digits_value}
-use Rattle.httparse.specs.Grammar.{RequestHead, print_request}
-use Rattle.http_front.specs.Arrival.{whole, Arrives}
-use Rattle.httparse.specs.Spans.{name_and_value}
-use Rattle.http_front.specs.Head.{is_check, is_plain, number_of, written_length, only_length, values_of, body_length}
-use Rattle.http_front.specs.Laws.{WholeIsOnly}
+use Rattle.std.proofs.Common.{◌≡◌, ℕ, ◌<◌, ◌⊎◌, inl, inr, List, [], ◌∷◌, ◌++◌, length, length-append, append-nil, Option, Some, None, refl, sym, ◌∙◌, ap, subst, arith}
+use Rattle.std.specs.Prelude.{IsSomeAnd}
+use Rattle.http_front.specs.Arrival.{whole, partial, Arrives}
+use Rattle.http_front.specs.Reply.{printed}
+use Rattle.http_front.specs.Request.{Request}
+use Rattle.http_front.specs.Laws.{WholeIsOnly, WholeIsShort, NothingIsPartial}
 use Rattle.edge_core.specs.World.{WorldState, WorldHasFailed}
 use Rattle.edge_core.specs.Door.{Links, DoorHasFailed, BothTold}
-use Rattle.snap_json.specs.Reading.{reading}
 use Rattle.type_table.specs.Table.{Catalog}
 use Rattle.top_call.specs.declared.exit.Exit.{Exit}
 use Rattle.top_call.specs.declared.exit.Exit.TheVariants.{Done, Checked, Usage, Unread, Syntax, Refused, DoorFailed, Memory, Inside}
 use Rattle.top_call.specs.Exit.{exit_code}
-use Rattle.top_call.specs.Link.{AnswersBytes, written_for, status_for, reading_reply}
+use Rattle.top_call.specs.Link.{AnswersBytes, written_for, status_for, reply_to}
 use Rattle.pointer_core.specs.declared.schema_rule.SchemaRule.{SchemaRule}
 use Rattle.snap_json.specs.Loose.{loosely}
 use Rattle.expr_core.specs.Schema.{Schema}
@@ -28,72 +21,28 @@ use Rattle.top_call.specs.Serving.{most_bytes, Served, AnswersLink, EndsWith}
 use Rattle.top_call.specs.Run.{Run, Files, IfFile, IfSchemaFile, IsTooLong, IsFileOf, IsSchemaOf, IsNoJson, IsFaulty, IsAnswered, Causes, FileIsGiven, SchemaIsGiven, RequestIsGiven, IsReplied, IsRun, IsCheck}
 use Rattle.schema_read.specs.Laws.{SchemaHasNoFault, FileIsOneSchema}
 
--- the laws of the crates below: one whole request is the only answer to its bytes, a schema has no fault, and a file is one schema
+-- the laws of the crates below: one whole request is the only answer to its bytes, which are few, and no bytes are none; a
+-- schema has no fault, and a file is one schema
 pub record Laws : Type 0 where
   pub whole_is_only : WholeIsOnly
+  pub whole_is_short : WholeIsShort
+  pub nothing_is_partial : NothingIsPartial
   pub schema_has_no_fault : SchemaHasNoFault
   pub file_is_one_schema : FileIsOneSchema
 
--- a body's length is at most 262,144
-guarded : (b : Bool) (n m : ℕ) → cond b (Some n) None ≡ Some m → (b ≡ true) × (n ≡ m)
-guarded true n m e = (refl, same_Some n m e)
-guarded false n m e = cc
-
-second : (a b : Bool) → a && b ≡ true → b ≡ true
-second true b e = e
-second false b e = cc
-
-number-le : (digits : List ℕ) (n : ℕ) → number_of digits ≡ Some n → n ≤ 262144
-number-le digits n e =
-    let g : (list_all is_ascii_digit digits && nat_le (digits_value 10 digits) 262144 ≡ true) × (digits_value 10 digits ≡ n) = guarded (list_all is_ascii_digit digits && nat_le (digits_value 10 digits) 262144) (digits_value 10 digits) n e in
-    let most : digits_value 10 digits ≤ 262144 = leb-true (digits_value 10 digits) 262144 (second (list_all is_ascii_digit digits) (nat_le (digits_value 10 digits) 262144) g.0) in
-    omega (arith, most, g.1)
-
-written-le : (digits : List ℕ) (n : ℕ) → written_length digits ≡ Some n → n ≤ 262144
-written-le digits n e = either (nat_le 1 (length digits) && nat_le (length digits) 18) (number_of digits) n e (number-le digits n) where
-  either : (b : Bool) (o : Option ℕ) (n : ℕ) → cond b o None ≡ Some n → (o ≡ Some n → n ≤ 262144) → n ≤ 262144
-  either true o n e h = h e
-  either false o n e h = cc
-
-only-le : (values : List (List ℕ)) (n : ℕ) → only_length values ≡ Some n → n ≤ 262144
-only-le [] n e = cc
-only-le (v ∷ []) n e = written-le v n e
-only-le (v ∷ w ∷ values) n e = cc
-
-given-le : (b : Bool) (values : List (List ℕ)) (n : ℕ) → cond b (only_length values) None ≡ Some n → n ≤ 262144
-given-le true values n e = only-le values n e
-given-le false values n e = cc
-
-body-le : (head : RequestHead) (n : ℕ) → body_length head ≡ Some n → n ≤ 262144
-body-le head n e =
-    let fields = map name_and_value head.fields in
-    given-le (is_check head.method head.target head.minor && is_plain fields) (values_of (codes "content-length") fields) n e
-
--- a whole request has at most 327,680 bytes
-whole-le : (input body : List ℕ) → Arrives input (whole body []) → length input ≤ 327680
-whole-le input body arrives =
-    let lengths : length input ≡ length (print_request arrives.head) + (length body + 0) =
-    ap length arrives.begins.reads.1 ∙ length-append (print_request arrives.head) (body ++ []) ∙ ap (λ n. length (print_request arrives.head) + n) (length-append body []) in
-    let most : length body ≤ 262144 = body-le arrives.head (length body) arrives.taken in
-    omega (arith, lengths, most, arrives.begins.size)
-
--- no bytes are no request
-some-head : (head : RequestHead) (rest : List ℕ) → [] ≡ print_request head ++ rest → ⊥
-unfolding print_request
-some-head head rest e = absurd (omega (arith, simp length-append at (ap length e)))
-
 -- a link that brought one whole request brought no more
-all_came : (came left input body : List ℕ) → came ++ left ≡ input → (left ≡ []) ⊎ (length came ≡ most_bytes) → Arrives input (whole body []) → left ≡ []
-all_came came left input body e (inl none) arrives = none
-all_came came left input body e (inr full) arrives =
-    absurd (omega (arith, full, whole-le input body arrives, ap length e, length-append came left))
+all_came : (laws : Laws) (came left input : List ℕ) (request : Request) → came ++ left ≡ input → (left ≡ []) ⊎ (length came ≡ most_bytes) → Arrives input (whole request []) → left ≡ []
+all_came laws came left input request e (inl none) arrives = none
+all_came laws came left input request e (inr full) arrives =
+    absurd (omega (arith, full, laws.whole_is_short input request arrives, ap length e, length-append came left))
 
 -- the bytes that came are answered as the request that they are
-whole_answered : (laws : Laws) (types : Catalog) (came written body : List ℕ) (status : ℕ) → Arrives came (whole body []) → AnswersBytes types came written status
-    → (written ≡ reading_reply types (reading body)) × (status ≡ 0)
-whole_answered laws types [] written body status arrives answers = absurd (some-head arrives.head (body ++ []) arrives.begins.reads.1)
-whole_answered laws types (b ∷ bytes) written body status arrives answers =
-    let same : answers.0 ≡ whole body [] = laws.whole_is_only (b ∷ bytes) body [] answers.0 arrives answers.1 in
+whole_answered : (laws : Laws) (types : Catalog) (came written : List ℕ) (request : Request) (status : ℕ) → Arrives came (whole request []) → AnswersBytes types came written status
+    → (written ≡ printed request.close (reply_to types request)) × (status ≡ 0)
+whole_answered laws types [] written request status arrives answers =
+    absurd (let none : whole request [] ≡ partial = laws.nothing_is_partial (whole request []) arrives in cc)
+whole_answered laws types (b ∷ bytes) written request status arrives answers =
+    let same : answers.0 ≡ whole request [] = laws.whole_is_only (b ∷ bytes) request [] answers.0 arrives answers.1 in
     (answers.2 ∙ ap (written_for types) same, answers.3 ∙ ap status_for same)
 
 -- links of which the next one got a reply
@@ -101,22 +50,22 @@ abbrev pub Replied : List ℕ → Option Links → Option Links → Type 0
 Replied reply before after = (came : List ℕ) × BothTold (Served came [] reply) before after
 
 -- what a request that is given got
-replied : (laws : Laws) (types : Catalog) (links after : Links) (input body : List ℕ) (rest : List (List ℕ)) (status : ℕ) → links.coming ≡ input ∷ rest
-    → Arrives input (whole body []) → AnswersLink types status links after → (status ≡ 0) × Replied (reading_reply types (reading body)) (Some links) (Some after)
-replied laws types links after input body rest status next arrives answers =
+replied : (laws : Laws) (types : Catalog) (links after : Links) (input : List ℕ) (request : Request) (rest : List (List ℕ)) (status : ℕ) → links.coming ≡ input ∷ rest
+    → Arrives input (whole request []) → AnswersLink types status links after → (status ≡ 0) × Replied (printed request.close (reply_to types request)) (Some links) (Some after)
+replied laws types links after input request rest status next arrives answers =
     let inputs : answers.came ++ answers.left ≡ input = (let e : (answers.came ++ answers.left) ∷ after.coming ≡ input ∷ rest = sym answers.served.next ∙ next in cc) in
-    let none : answers.left ≡ [] = all_came answers.came answers.left input body inputs answers.all arrives in
+    let none : answers.left ≡ [] = all_came laws answers.came answers.left input request inputs answers.all arrives in
     let whole_input : answers.came ≡ input = sym (append-nil answers.came) ∙ ap (λ xs. answers.came ++ xs) (sym none) ∙ inputs in
-    let gets = whole_answered laws types answers.came answers.written body status (subst (λ xs. Arrives xs (whole body [])) (sym whole_input) arrives) answers.answers in
+    let gets = whole_answered laws types answers.came answers.written request status (subst (λ xs. Arrives xs (whole request [])) (sym whole_input) arrives) answers.answers in
     let served : Served answers.came [] answers.written links after = subst (λ xs. Served answers.came xs answers.written links after) none answers.served in
     (gets.1, (answers.came, subst (λ xs. Served answers.came [] xs links after) gets.0 served))
 
 -- an answer to the link of a request that is given
-ends_replied : (laws : Laws) (types : Catalog) (links : Links) (after : Option Links) (input body : List ℕ) (rest : List (List ℕ)) (status : ℕ) → links.coming ≡ input ∷ rest
-    → Arrives input (whole body []) → BothTold (EndsWith types status) (Some links) after → (status ≡ 0) × Replied (reading_reply types (reading body)) (Some links) after
-ends_replied laws types links None input body rest status next arrives ends = absurd ends
-ends_replied laws types links (Some after) input body rest status next arrives (inl none) = absurd (let e : [] ≡ input ∷ rest = sym none.0.none_left ∙ next in cc)
-ends_replied laws types links (Some after) input body rest status next arrives (inr answers) = replied laws types links after input body rest status next arrives answers
+ends_replied : (laws : Laws) (types : Catalog) (links : Links) (after : Option Links) (input : List ℕ) (request : Request) (rest : List (List ℕ)) (status : ℕ) → links.coming ≡ input ∷ rest
+    → Arrives input (whole request []) → BothTold (EndsWith types status) (Some links) after → (status ≡ 0) × Replied (printed request.close (reply_to types request)) (Some links) after
+ends_replied laws types links None input request rest status next arrives ends = absurd ends
+ends_replied laws types links (Some after) input request rest status next arrives (inl none) = absurd (let e : [] ≡ input ∷ rest = sym none.0.none_left ∙ next in cc)
+ends_replied laws types links (Some after) input request rest status next arrives (inr answers) = replied laws types links after input request rest status next arrives answers
 
 -- a fact of the file that is given
 of_file : (files : Files) (name file : List ℕ) (P : List ℕ → Type 0) → FileIsGiven files name file → IfFile files name P → P file
@@ -150,21 +99,21 @@ of_named r command P named fact =
     there
 
 -- what a run by a file that is given got
-answered_given : (laws : Laws) (r : Run) (types : Catalog) (body : List ℕ) (given : RequestIsGiven r types body) (status : ℕ) → IsAnswered r status
-    → (status ≡ 0) × IsReplied r (reading_reply types (reading body))
-answered_given laws r types body given status answered =
+answered_given : (laws : Laws) (r : Run) (types : Catalog) (request : Request) (given : RequestIsGiven r types request) (status : ℕ) → IsAnswered r status
+    → (status ≡ 0) × IsReplied r (printed request.close (reply_to types request))
+answered_given laws r types request given status answered =
     let ours : IsSchemaOf answered.types given.file =
     of_file r.world_before.files given.name given.file (IsSchemaOf answered.types) given.given (of_named r (run given.name) (IsSchemaOf answered.types) given.named answered.schema) in
     let one : ours.0 ≡ given.schema.0 = laws.file_is_one_schema given.file ours.0 given.schema.0 ours.1.spells given.schema.1.spells in
     let same : answered.types ≡ types = sym ours.2 ∙ ap (λ (schema : Schema). schema.types) one ∙ given.schema.2 in
-    let replies : reading_reply answered.types (reading body) ≡ reading_reply types (reading body) =
-    ap (λ (types : Catalog). reading_reply types (reading body)) same in
+    let replies : printed request.close (reply_to answered.types request) ≡ printed request.close (reply_to types request) =
+    ap (λ (types : Catalog). printed request.close (reply_to types request)) same in
     let ends : BothTold (EndsWith answered.types status) (Some given.links) r.door_after.links =
     subst (λ o. BothTold (EndsWith answered.types status) o r.door_after.links) given.links_told answered.ends in
-    let gets : (status ≡ 0) × Replied (reading_reply answered.types (reading body)) (Some given.links) r.door_after.links =
-    ends_replied laws answered.types given.links r.door_after.links given.input body given.rest status given.next given.arrives ends in (
+    let gets : (status ≡ 0) × Replied (printed request.close (reply_to answered.types request)) (Some given.links) r.door_after.links =
+    ends_replied laws answered.types given.links r.door_after.links given.input request given.rest status given.next given.arrives ends in (
       gets.0,
-      subst (λ o. Replied (reading_reply types (reading body)) o r.door_after.links) (sym given.links_told)
+      subst (λ o. Replied (printed request.close (reply_to types request)) o r.door_after.links) (sym given.links_told)
           (subst (λ reply. Replied reply (Some given.links) r.door_after.links) replies gets.1),
     )
 
@@ -202,31 +151,31 @@ check_completes laws r Done cause given world = absurd (subst IsRun given.named 
 check_completes laws r Inside cause given world = absurd (subst IsRun given.named cause.is_run)
 check_completes laws r DoorFailed cause given world = absurd (subst IsRun given.named cause.1.is_run)
 
-run_completes : (laws : Laws) (r : Run) (exit : Exit) → Causes r exit → (types : Catalog) (body : List ℕ) → RequestIsGiven r types body
+run_completes : (laws : Laws) (r : Run) (exit : Exit) → Causes r exit → (types : Catalog) (request : Request) → RequestIsGiven r types request
     → ¬ (WorldHasFailed r.world_before r.world_after) → ¬ (DoorHasFailed r.door_before r.door_after)
-    → (exit_code exit ≡ 7) ⊎ ((exit_code exit ≡ 0) × IsReplied r (reading_reply types (reading body)))
-run_completes laws r Memory cause types body given world door = inl refl
-run_completes laws r Checked cause types body given world door = absurd (subst IsCheck given.named cause.0)
-run_completes laws r Usage cause types body given world door =
+    → (exit_code exit ≡ 7) ⊎ ((exit_code exit ≡ 0) × IsReplied r (printed request.close (reply_to types request)))
+run_completes laws r Memory cause types request given world door = inl refl
+run_completes laws r Checked cause types request given world door = absurd (subst IsCheck given.named cause.0)
+run_completes laws r Usage cause types request given world door =
     absurd (never_none r (run given.name) given.named given.file given.given given.schema.0 given.schema.1 cause)
-run_completes laws r Unread cause types body given world door = elim cause.1 [
+run_completes laws r Unread cause types request given world door = elim cause.1 [
   | inl failed ↦ absurd (world failed)
   | inr long ↦ absurd (never_long r (run given.name) given.named given.file given.given given.schema.0 given.schema.1 long)
 ]
-run_completes laws r Syntax cause types body given world door =
+run_completes laws r Syntax cause types request given world door =
     absurd (never_other r (run given.name) given.named given.file given.given given.schema.0 given.schema.1 cause)
-run_completes laws r (Refused pointer rule) cause types body given world door =
+run_completes laws r (Refused pointer rule) cause types request given world door =
     absurd (never_faulty r (run given.name) given.named given.file given.given given.schema.0 given.schema.1 laws pointer rule cause)
-run_completes laws r Done cause types body given world door = inr (answered_given laws r types body given 0 cause)
-run_completes laws r Inside cause types body given world door = absurd (omega (arith, (answered_given laws r types body given 9 cause).0))
-run_completes laws r DoorFailed cause types body given world door = absurd (door cause.0)
+run_completes laws r Done cause types request given world door = inr (answered_given laws r types request given 0 cause)
+run_completes laws r Inside cause types request given world door = absurd (omega (arith, (answered_given laws r types request given 9 cause).0))
+run_completes laws r DoorFailed cause types request given world door = absurd (door cause.0)
 
 -- the same of what a run was given, whatever the world told after it
 given_schema : (r : Run) (told : WorldState) → SchemaIsGiven r → SchemaIsGiven (record r { world_after = told })
 given_schema r told x = record { name = x.name; file = x.file; named = x.named; given = x.given; schema = x.schema }
 
-given_request : (r : Run) (told : WorldState) (types : Catalog) (body : List ℕ) → RequestIsGiven r types body → RequestIsGiven (record r { world_after = told }) types body
-given_request r told types body x = record {
+given_request : (r : Run) (told : WorldState) (types : Catalog) (request : Request) → RequestIsGiven r types request → RequestIsGiven (record r { world_after = told }) types request
+given_request r told types request x = record {
   name = x.name;
   file = x.file;
   named = x.named;
@@ -245,8 +194,8 @@ pub checks-all : (laws : Laws) (r : Run) (told : WorldState) (exit : Exit) → C
 checks-all laws r told exit cause given world = check_completes laws (record r { world_after = told }) exit cause (given_schema r told given) world
 
 pub completes : (laws : Laws) (r : Run) (told : WorldState) (exit : Exit) → Causes (record r { world_after = told }) exit
-    → (types : Catalog) (body : List ℕ) → RequestIsGiven r types body
+    → (types : Catalog) (request : Request) → RequestIsGiven r types request
     → ¬ (WorldHasFailed r.world_before told) → ¬ (DoorHasFailed r.door_before r.door_after)
-    → (exit_code exit ≡ 7) ⊎ ((exit_code exit ≡ 0) × IsReplied r (reading_reply types (reading body)))
-completes laws r told exit cause types body given world door =
-    run_completes laws (record r { world_after = told }) exit cause types body (given_request r told types body given) world door
+    → (exit_code exit ≡ 7) ⊎ ((exit_code exit ≡ 0) × IsReplied r (printed request.close (reply_to types request)))
+completes laws r told exit cause types request given world door =
+    run_completes laws (record r { world_after = told }) exit cause types request (given_request r told types request given) world door

@@ -3,13 +3,14 @@ use Rattle.std.proofs.Common.{◌≡◌, ℕ, ◌⊎◌, inl, inr, List, [], cod
 use Rattle.std.specs.Prelude.{IsSomeAnd, IsSome}
 use Rattle.edge_core.specs.World.{WorldState, WorldHasFailed, Gets}
 use Rattle.edge_core.specs.Door.{Links, DoorHasFailed}
-use Rattle.snap_json.specs.Reading.{reading}
 use Rattle.type_table.specs.Table.{Catalog}
 use Rattle.top_call.specs.declared.exit.Exit.{Exit}
 use Rattle.top_call.specs.declared.exit.Exit.TheVariants.{Done, Checked, Usage, Unread, Syntax, Refused, DoorFailed, Memory, Inside}
 use Rattle.top_call.specs.Words.{Command, check, run}
 use Rattle.top_call.specs.Exit.{exit_code, told_err}
-use Rattle.top_call.specs.Link.{reading_reply}
+use Rattle.http_front.specs.Reply.{printed}
+use Rattle.http_front.specs.Request.{Request}
+use Rattle.top_call.specs.Link.{reply_to}
 use Rattle.top_call.specs.Report.{Tells}
 use Rattle.top_call.specs.Run.{Run, Ends, Causes, LeavesDoor, IsRun, IsCheck, IsServed, IsAnswered, IsBroken, IsOutOfMemory, IfSchemaFile, IsTooLong, IsSchemaFile, Refuses, SchemaIsGiven, RequestIsGiven, IsReplied}
 use Rattle.top_call.proofs.Exits.{risen-longer}
@@ -206,11 +207,11 @@ module _ (r : Run) (status : ℕ) (ends : Ends r status) where
     | inr fails ↦ absurd (world (rises-late fails.failed))
   ]
 
-  pub complete-law : Laws → (types : Catalog) (body : List ℕ) → RequestIsGiven r types body → ¬ (WorldHasFailed r.world_before r.world_after)
-      → ¬ (DoorHasFailed r.door_before r.door_after) → (status ≡ 7) ⊎ ((status ≡ 0) × IsReplied r (reading_reply types (reading body)))
-  complete-law laws types body given world door = elim ends.reports [
+  pub complete-law : Laws → (types : Catalog) (request : Request) → RequestIsGiven r types request → ¬ (WorldHasFailed r.world_before r.world_after)
+      → ¬ (DoorHasFailed r.door_before r.door_after) → (status ≡ 7) ⊎ ((status ≡ 0) × IsReplied r (printed request.close (reply_to types request)))
+  complete-law laws types request given world door = elim ends.reports [
     | inl tells ↦
-        subst (λ n. (n ≡ 7) ⊎ ((n ≡ 0) × IsReplied r (reading_reply types (reading body)))) (sym tells.answers)
-        (completes laws r ends.told ends.exit ends.causes types body given (λ failed. world (rises-later failed)) door)
+        subst (λ n. (n ≡ 7) ⊎ ((n ≡ 0) × IsReplied r (printed request.close (reply_to types request)))) (sym tells.answers)
+        (completes laws r ends.told ends.exit ends.causes types request given (λ failed. world (rises-later failed)) door)
     | inr fails ↦ absurd (world (rises-late fails.failed))
   ]

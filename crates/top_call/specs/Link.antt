@@ -1,6 +1,7 @@
 -- One link: which bytes answer the bytes that came.
-use Rattle.std.specs.Prelude.{◌≡◌, ℕ, ◌<◌, List, [], ◌∷◌, ◌++◌, length, codes, slice_get, Bool, true, false, Option, Some, None, Ok, Err}
+use Rattle.std.specs.Prelude.{◌≡◌, ℕ, ◌<◌, List, [], ◌∷◌, ◌++◌, length, codes, slice_get, true, not, ◌==◌, if◌then◌else◌, Option, Some, None, Ok, Err}
 use Rattle.std.specs.List.{flat_map}
+use Rattle.std.specs.Str.{bytes_eq}
 use Rattle.snap_core.specs.Value.{Value, text, dict}
 use Rattle.snap_core.specs.View.{members_of}
 use Rattle.snap_json.specs.Reading.{Reading, reading, value, unwhole, syntax}
@@ -8,13 +9,15 @@ use Rattle.snap_json.specs.Printing.{json_text}
 use Rattle.pointer_core.specs.Path.{Path, printed}
 use Rattle.pointer_core.specs.Rule.{rule_name, rule_status}
 use Rattle.pointer_core.specs.declared.refusal.Rule.{Rule}
-use Rattle.pointer_core.specs.declared.refusal.Rule.TheVariants.{Head, Syntax, Whole, Identifier}
+use Rattle.pointer_core.specs.declared.refusal.Rule.TheVariants.{Head, Syntax, Whole, Unknown, Method, Identifier, Body, Fields, Coding}
 use Rattle.type_table.specs.declared.shape.ModelType.{ModelType}
 use Rattle.type_table.specs.Table.{Catalog}
 use Rattle.type_core.specs.Making.{Outcome, making}
 use Rattle.type_core.specs.Doubled.{identifiers_of, doubled_of}
 use Rattle.http_front.specs.Arrival.{Arrival, whole, partial, refused, Arrives}
-use Rattle.http_front.specs.Reply.{line, reply_bytes}
+use Rattle.http_front.specs.Reply.{Reply, line}
+use Rattle.http_front.specs.Reply as reply
+use Rattle.http_front.specs.Request.{Request}
 use Rattle.top_call.specs.declared.answer.End.{End}
 use Rattle.top_call.specs.declared.answer.End.TheVariants.{Between, Inside}
 
@@ -35,13 +38,17 @@ rule_body name = json_text (only (codes "error") (text name))
 abbrev pub place_body : List ℕ → List ℕ → List ℕ
 place_body name pointer = json_text (record_of ((codes "error", text name) ∷ (codes "path", text pointer) ∷ []))
 
--- the reply that names a rule, without a place
-abbrev pub rule_reply : Bool → Rule → List ℕ
-rule_reply close rule = reply_bytes (rule_status rule) close (rule_body (rule_name rule))
+-- the reply that names a rule, without a place, and the one that names a rule and a place
+abbrev pub rule_reply : Rule → Reply
+rule_reply rule = record { status = rule_status rule; allow = None; body = rule_body (rule_name rule) }
 
--- the reply that names a rule and a place
-abbrev pub place_reply : Rule → Path → List ℕ
-place_reply rule path = reply_bytes (rule_status rule) false (place_body (rule_name rule) (printed path))
+abbrev pub place_reply : Rule → Path → Reply
+place_reply rule path =
+    record { status = rule_status rule; allow = None; body = place_body (rule_name rule) (printed path) }
+
+-- the reply to another method than these
+abbrev pub method_reply : List ℕ → Reply
+method_reply methods = record (rule_reply Method) { allow = Some methods }
 
 -- the number of the type that a model is
 abbrev pub own_type : Option ModelType → ℕ
@@ -53,21 +60,33 @@ abbrev pub root_type : Catalog → ℕ
 root_type types = own_type (slice_get types.table.models types.root.0)
 
 -- the reply to a value that was made, by the place where an identifier stands a second time, if one does
-abbrev pub snapshot_reply : Value → Option Path → List ℕ
-snapshot_reply v None = reply_bytes 200 false (snapshot_body v)
+abbrev pub snapshot_reply : Value → Option Path → Reply
+snapshot_reply v None = record { status = 200; allow = None; body = snapshot_body v }
 snapshot_reply v (Some second) = place_reply Identifier second
 
 -- the reply to what making comes to
-abbrev pub making_reply : Catalog → Outcome Value → List ℕ
+abbrev pub making_reply : Catalog → Outcome Value → Reply
 making_reply types (Ok v) = snapshot_reply v (doubled_of (identifiers_of types v))
 making_reply types (Err e) = place_reply e.rule e.path
 
 -- The reply to a body: the root's type makes its value, unless a number in it isn't whole or it spells none; and what is made
 -- holds no identifier twice.
-abbrev pub reading_reply : Catalog → Reading → List ℕ
+abbrev pub reading_reply : Catalog → Reading → Reply
 reading_reply types (value v) = making_reply types (making types (root_type types) (Some v))
 reading_reply types (unwhole path) = place_reply Whole path
-reading_reply types syntax = rule_reply false Syntax
+reading_reply types syntax = rule_reply Syntax
+
+-- the reply to a request: `POST /check` is all that there is
+abbrev pub reply_to : Catalog → Request → Reply
+reply_to types request =
+    if not (bytes_eq request.path (codes "/check")) then rule_reply Unknown
+    else if not (bytes_eq request.method (codes "POST")) then method_reply (codes "POST")
+    else reading_reply types (reading request.body)
+
+-- the rule that a refused head's status stands for
+abbrev pub head_rule : ℕ → Rule
+head_rule status =
+    if status == 413 then Body else if status == 431 then Fields else if status == 501 then Coding else Head
 
 -- the fixed reply where memory runs out
 abbrev pub memory_reply : List ℕ
@@ -78,16 +97,16 @@ memory_reply =
 
 -- what is written to a link: one request is answered, and bytes after it aren't taken
 abbrev pub written_for : Catalog → Arrival → List ℕ
-written_for types (whole body []) = reading_reply types (reading body)
-written_for types (whole body (b ∷ rest)) = rule_reply true Head
+written_for types (whole request []) = reply.printed request.close (reply_to types request)
+written_for types (whole request (b ∷ rest)) = reply.printed true (rule_reply Head)
 written_for types partial = []
-written_for types refused = rule_reply true Head
+written_for types (refused status) = reply.printed true (rule_reply (head_rule status))
 
 -- the exit status after a link: 9 where the bytes end inside a request
 abbrev pub status_for : Arrival → ℕ
-status_for (whole body rest) = 0
+status_for (whole request rest) = 0
 status_for partial = 9
-status_for refused = 0
+status_for (refused status) = 0
 
 -- how the bytes of a link end: between requests, or inside one
 abbrev pub end_status : End → ℕ

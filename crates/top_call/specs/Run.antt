@@ -12,6 +12,7 @@ use Rattle.type_core.specs.Sound.{IsSound}
 use Rattle.expr_core.specs.Schema.{Schema}
 use Rattle.schema_read.specs.Schema.{Spells, HasFirst}
 use Rattle.http_front.specs.Arrival.{whole, Arrives}
+use Rattle.http_front.specs.Request.{Request}
 use Rattle.top_call.specs.Words.{Command, check, run, name_in}
 use Rattle.top_call.specs.declared.exit.Exit.{Exit}
 use Rattle.top_call.specs.declared.exit.Exit.TheVariants.{Done, Checked, Usage, Unread, Syntax, Refused, DoorFailed, Memory, Inside}
@@ -177,9 +178,9 @@ pub record SchemaIsGiven (r : Run) : Type 0 where
   pub given : FileIsGiven r.world_before.files name file
   pub schema : IsSchemaFile file
 
--- the command is run, its file is given and is a schema of these types, and the next link is told and brings one whole
--- request with this body
-pub record RequestIsGiven (r : Run) (types : Catalog) (body : List ℕ) : Type 0 where
+-- the command is run, its file is given and is a schema of these types, and the next link is told and brings this request, whole
+-- and nothing after it
+pub record RequestIsGiven (r : Run) (types : Catalog) (request : Request) : Type 0 where
   pub name : List ℕ
   pub file : List ℕ
   pub named : r.command ≡ Some (run name)
@@ -190,7 +191,7 @@ pub record RequestIsGiven (r : Run) (types : Catalog) (body : List ℕ) : Type 0
   pub input : List ℕ
   pub rest : List (List ℕ)
   pub next : links.coming ≡ input ∷ rest
-  pub arrives : Arrives input (whole body [])
+  pub arrives : Arrives input (whole request [])
 
 -- the next link got this reply, brought all its bytes, and was shut
 abbrev pub IsReplied : Run → List ℕ → Type 0

@@ -1,18 +1,19 @@
 //! From the bytes of a link to the bytes that answer them.
-ghost use Rattle.std.specs.Prelude.{◌≡◌, ◌<◌, [], ◌∷◌, length, true, false, Some, IfOk, IfErr, IsSome, codes, if◌then◌else◌};
+ghost use Rattle.std.specs.Prelude.{◌≡◌, ◌<◌, [], ◌∷◌, length, true, false, Some, None, IfOk, IfErr, IsSome, codes, if◌then◌else◌};
 ghost use Rattle.snap_core.specs.Value.{text, IsPlain};
 ghost use Rattle.snap_core.specs.View.{view};
-ghost use Rattle.pointer_core.specs.Path.{printed};
+ghost use Rattle.pointer_core.specs.Path as pointer;
 ghost use Rattle.pointer_core.specs.Rule.{rule_name};
 ghost use Rattle.http.specs.StatusCode.{IsStatusCode, reason_phrase};
-ghost use Rattle.http_front.specs.Reply.{reply_bytes};
+ghost use Rattle.http_front.specs.Reply.{printed};
+ghost use Rattle.http_front.specs.Request.{seen};
 ghost use Rattle.snap_json.specs.Printing.{json_text};
 ghost use Rattle.snap_json.specs.Reading.{reading};
 ghost use Rattle.type_core.specs.Making.{making};
 ghost use Rattle.type_core.specs.Doubled.{identifiers_of, doubled_of};
 ghost use Rattle.top_call.specs.Link as link;
 
-use http_front::{Next, next_request, print_reply};
+use http_front::{Next, Request, next_request, print_reply};
 use list_core::Parts;
 use pointer_core::{Refusal, Rule};
 use snap_core::{Bytes, Field, Snap, Txt, TypeNo};
@@ -49,14 +50,9 @@ pub fn answer_to(alloc: Global, types: &Types, came: &[u8]) -> Result<Answer, Al
         return Ok(silence(alloc, End::Between));
     }
     match next_request(came) {
-        Next::Found { request, used } => found_answer(
-            alloc,
-            types,
-            request.body,
-            came.len() == used,
-        ),
+        Next::Found { request, used } => found_answer(alloc, types, &request, came.len() == used),
         Next::NeedMore => Ok(silence(alloc, End::Inside)),
-        Next::Bad { .. } => head_answer(alloc),
+        Next::Bad { status } => refused_answer(alloc, head_rule(status)),
     }
 }
 
@@ -71,49 +67,75 @@ fn silence(alloc: Global, end: End) -> Answer
     }
 }
 
-// The answer to a request with this body, which is taken where it is the last of its link.
+// The answer to a request, which is taken where it is the last of its link.
 fn found_answer(
     alloc: Global,
     types: &Types,
-    body: &[u8],
+    request: &Request<'_>,
     is_last: bool,
 ) -> Result<Answer, AllocError>
     ensures { IfOk result (λ answer. (answer.end ≡ End.Between)
-        × (answer.bytes ≡ (if is_last then link.reading_reply types.now (reading body.now)
-        else link.rule_reply true Rule.Head))) }
+        × (answer.bytes ≡ (if is_last then printed request.now.close (link.reply_to types.now (seen request.now))
+        else printed true (link.rule_reply Rule.Head)))) }
 {
     if !is_last {
-        return head_answer(alloc);
+        return refused_answer(alloc, Rule::Head);
     }
-    let bytes = body_reply(alloc, types, body)?;
+    let bytes = request_reply(alloc, types, request)?;
     Ok(Answer {
         bytes,
         end: End::Between,
     })
 }
 
-// The answer to what isn't a request that is taken.
-fn head_answer(alloc: Global) -> Result<Answer, AllocError>
+// The answer to what is no request that is taken.
+fn refused_answer(alloc: Global, rule: Rule) -> Result<Answer, AllocError>
     ensures { IfOk result (λ answer. (answer.end ≡ End.Between)
-        × (answer.bytes ≡ link.rule_reply true Rule.Head)) }
+        × (answer.bytes ≡ printed true (link.rule_reply rule))) }
 {
-    let bytes = rule_reply(alloc, true, &Rule::Head)?;
+    let bytes = rule_reply(alloc, true, &rule)?;
     Ok(Answer {
         bytes,
         end: End::Between,
     })
+}
+
+// The rule by which a head of that status is refused.
+fn head_rule(status: u16) -> Rule
+    ensures { result ≡ link.head_rule status }
+{
+    match status {
+        413 => Rule::Body,
+        431 => Rule::Fields,
+        501 => Rule::Coding,
+        _ => Rule::Head,
+    }
+}
+
+// The reply to a request.
+fn request_reply(alloc: Global, types: &Types, request: &Request<'_>) -> Result<Bytes, AllocError>
+    ensures { IfOk result (λ bytes. bytes ≡ printed request.now.close (link.reply_to types.now (seen request.now))) }
+{
+    if request.path != b"/check".as_slice() {
+        return rule_reply(alloc, request.close, &Rule::Unknown);
+    }
+    if request.method != b"POST".as_slice() {
+        return method_reply(alloc, request.close, "POST");
+    }
+    body_reply(alloc, types, request.close, request.body)
 }
 
 // The reply to a body.
-fn body_reply(alloc: Global, types: &Types, body: &[u8]) -> Result<Bytes, AllocError>
-    ensures { IfOk result (λ bytes. bytes ≡ link.reading_reply types.now (reading body.now)) }
+fn body_reply(alloc: Global, types: &Types, close: bool, body: &[u8]) -> Result<Bytes, AllocError>
+    ensures { IfOk result (λ bytes. bytes ≡ printed close (link.reading_reply types.now (reading body.now))) }
 {
     match read_snap(alloc, body) {
-        Ok(given) => value_reply(alloc, types, &given),
+        Ok(given) => value_reply(alloc, types, close, &given),
         Err(ReadError::Memory) => Err(AllocError),
-        Err(ReadError::Syntax) => rule_reply(alloc, false, &Rule::Syntax),
+        Err(ReadError::Syntax) => rule_reply(alloc, close, &Rule::Syntax),
         Err(ReadError::Whole { path }) => refusal_reply(
             alloc,
+            close,
             &Refusal {
                 path,
                 rule: Rule::Whole,
@@ -123,15 +145,15 @@ fn body_reply(alloc: Global, types: &Types, body: &[u8]) -> Result<Bytes, AllocE
 }
 
 // The reply to a value: what the root's type makes of it, or why it makes nothing.
-fn value_reply(alloc: Global, types: &Types, given: &Snap) -> Result<Bytes, AllocError>
+fn value_reply(alloc: Global, types: &Types, close: bool, given: &Snap) -> Result<Bytes, AllocError>
     requires { IsPlain (view given.now) }
-    ensures { IfOk result (λ bytes. bytes ≡ link.making_reply types.now
-        (making types.now (link.root_type types.now) (Some (view given.now)))) }
+    ensures { IfOk result (λ bytes. bytes ≡ printed close (link.making_reply types.now
+        (making types.now (link.root_type types.now) (Some (view given.now))))) }
 {
     match make(alloc, types, root_type(types), Some(given)) {
-        Ok(made) => made_reply(alloc, types, made),
+        Ok(made) => made_reply(alloc, types, close, made),
         Err(MakeError::Memory) => Err(AllocError),
-        Err(MakeError::Refused(refusal)) => refusal_reply(alloc, &refusal),
+        Err(MakeError::Refused(refusal)) => refusal_reply(alloc, close, &refusal),
     }
 }
 
@@ -144,36 +166,37 @@ fn root_type(types: &Types) -> TypeNo
 }
 
 // The reply to what was made: it is shown, unless it holds an identifier twice.
-fn made_reply(alloc: Global, types: &Types, made: Snap) -> Result<Bytes, AllocError>
+fn made_reply(alloc: Global, types: &Types, close: bool, made: Snap) -> Result<Bytes, AllocError>
     requires { IsPlain (view made) }
-    ensures { IfOk result (λ bytes. bytes ≡ link.snapshot_reply (view made)
-        (doubled_of (identifiers_of types.now (view made)))) }
+    ensures { IfOk result (λ bytes. bytes ≡ printed close (link.snapshot_reply (view made)
+        (doubled_of (identifiers_of types.now (view made))))) }
 {
     match doubled(alloc, types, &made)? {
         Some(path) => refusal_reply(
             alloc,
+            close,
             &Refusal {
                 path,
                 rule: Rule::Identifier,
             },
         ),
-        None => snapshot_reply(alloc, made),
+        None => snapshot_reply(alloc, close, made),
     }
 }
 
 // The reply that shows a value.
-fn snapshot_reply(alloc: Global, made: Snap) -> Result<Bytes, AllocError>
+fn snapshot_reply(alloc: Global, close: bool, made: Snap) -> Result<Bytes, AllocError>
     requires { IsPlain (view made) }
-    ensures { IfOk result (λ bytes. bytes ≡ reply_bytes 200 false (link.snapshot_body (view made))) }
+    ensures { IfOk result (λ bytes. bytes ≡ printed close (link.snapshot_reply (view made) None)) }
 {
     let body = only(alloc, "snapshot", made)?;
-    reply(alloc, 200, false, &body)
+    reply(alloc, 200, close, &body)
 }
 
 // The reply that names a rule alone.
 #[tactic(auto, using(crate::proofs::Statuses::status_is_code))]
 fn rule_reply(alloc: Global, close: bool, rule: &Rule) -> Result<Bytes, AllocError>
-    ensures { IfOk result (λ bytes. bytes ≡ link.rule_reply close rule.now) }
+    ensures { IfOk result (λ bytes. bytes ≡ printed close (link.rule_reply rule.now)) }
 {
     let body = rule_body(alloc, rule)?;
     reply(alloc, rule.status(), close, &body)
@@ -181,21 +204,34 @@ fn rule_reply(alloc: Global, close: bool, rule: &Rule) -> Result<Bytes, AllocErr
 
 // The reply that names a rule and a place.
 #[tactic(auto, using(crate::proofs::Statuses::status_is_code))]
-fn refusal_reply(alloc: Global, refusal: &Refusal) -> Result<Bytes, AllocError>
-    ensures { IfOk result (λ bytes. bytes ≡ link.place_reply refusal.now.rule refusal.now.path) }
+fn refusal_reply(alloc: Global, close: bool, refusal: &Refusal) -> Result<Bytes, AllocError>
+    ensures { IfOk result (λ bytes. bytes ≡ printed close (link.place_reply refusal.now.rule refusal.now.path)) }
 {
     let body = place_body(alloc, refusal)?;
-    reply(alloc, refusal.rule.status(), false, &body)
+    reply(alloc, refusal.rule.status(), close, &body)
+}
+
+// The reply to another method than these.
+fn method_reply(alloc: Global, close: bool, methods: &str) -> Result<Bytes, AllocError>
+    ensures { IfOk result (λ bytes. bytes ≡ printed close (link.method_reply methods.now)) }
+{
+    let body = rule_body(alloc, &Rule::Method)?;
+    let text = print_snap(alloc, &body)?;
+    print_reply(alloc, 405, Some(methods), close, text.as_slice())
 }
 
 fn reply(alloc: Global, status: u16, close: bool, body: &Snap) -> Result<Bytes, AllocError>
     requires plain { IsPlain (view body.now) }
     requires code { IsStatusCode status }
     requires phrase { IsSome (reason_phrase status) }
-    ensures { IfOk result (λ bytes. bytes ≡ reply_bytes status close (json_text (view body.now))) }
+    ensures { IfOk result (λ bytes. bytes ≡ printed close (record {
+      status = status;
+      allow = None;
+      body = json_text (view body.now);
+    })) }
 {
     let text = print_snap(alloc, body)?;
-    print_reply(alloc, status, close, text.as_slice())
+    print_reply(alloc, status, None, close, text.as_slice())
 }
 
 fn rule_body(alloc: Global, rule: &Rule) -> Result<Snap, AllocError>
@@ -208,7 +244,7 @@ fn rule_body(alloc: Global, rule: &Rule) -> Result<Snap, AllocError>
 fn place_body(alloc: Global, refusal: &Refusal) -> Result<Snap, AllocError>
     ensures { IfOk result (λ body. view body ≡ link.record_of
         ((codes "error", text (rule_name refusal.now.rule))
-        ∷ (codes "path", text (printed refusal.now.path)) ∷ [])) }
+        ∷ (codes "path", text (pointer.printed refusal.now.path)) ∷ [])) }
 {
     let name = Txt::copy(alloc, refusal.rule.name())?;
     let path = refusal.path.print()?;

@@ -1,15 +1,16 @@
 //! What each exit status tells of a run: laws that follow from how a run ends.
-ghost use Rattle.std.specs.Prelude.{◌≡◌, ◌⊎◌, ℕ, List, None, IsTrue, codes};
-ghost use Rattle.snap_json.specs.Reading.{reading};
+ghost use Rattle.std.specs.Prelude.{◌≡◌, ◌⊎◌, ℕ, None, IsTrue, codes};
+ghost use Rattle.http_front.specs.Reply.{printed};
+ghost use Rattle.http_front.specs.Request.{Request};
 ghost use Rattle.type_table.specs.Table.{Catalog};
 ghost use Rattle.edge_core.specs.World.{WorldHasFailed, Gets};
 ghost use Rattle.edge_core.specs.Door.{DoorHasFailed};
 ghost use Rattle.top_call.specs.declared.exit.Exit as declared;
-ghost use Rattle.top_call.specs.Link.{reading_reply};
+ghost use Rattle.top_call.specs.Link.{reply_to};
 ghost use Rattle.top_call.specs.Report.{Tells};
 ghost use Rattle.top_call.specs.Run.{Run, Ends, IsRun, IsCheck, IfSchemaFile, IsTooLong, IsSchemaFile, IsAnswered, IsBroken, IsOutOfMemory, Refuses, SchemaIsGiven, RequestIsGiven, IsReplied};
 
-use http_front::whole_is_only;
+use http_front::{nothing_is_partial, requests_are_short, whole_is_only};
 use schema_read::{file_is_one_schema, schema_has_no_fault};
 
 /// The cause of each status, and what is told.
@@ -58,12 +59,14 @@ pub fn answers_what_is_given()
         → ¬ (WorldHasFailed r.world_before r.world_after) → (status ≡ 7) ⊎ (status ≡ 0) }
     // A run by a schema, with one whole request: it gets its reply, or memory ran out.
     ensures complete { (r : Run) (status : ℕ) → Ends r status
-        → (types : Catalog) (body : List ℕ) → RequestIsGiven r types body
+        → (types : Catalog) (request : Request) → RequestIsGiven r types request
         → ¬ (WorldHasFailed r.world_before r.world_after)
         → ¬ (DoorHasFailed r.door_before r.door_after)
-        → (status ≡ 7) ⊎ ((status ≡ 0) × IsReplied r (reading_reply types (reading body))) }
+        → (status ≡ 7) ⊎ ((status ≡ 0) × IsReplied r (printed request.close (reply_to types request))) }
 {
     whole_is_only();
+    requests_are_short();
+    nothing_is_partial();
     schema_has_no_fault();
     file_is_one_schema();
 }

@@ -1,6 +1,6 @@
 use Rattle.std.proofs.Common.{map, take}
 use Rattle.httparse.specs.Spans.{header_bytes}
-use Rattle.http_front.specs.Fields.{AreValues}
+use Rattle.http_front.specs.Front.{AreValues}
 use Rattle.http_front.specs.Head.{values_of}
 use Rattle.http_front.proofs.fields.find_values.Given as goal
 

@@ -1,0 +1,6 @@
+pub mod Completing
+pub mod Told
+pub mod Writing
+pub mod Exchanging
+pub mod Turning
+pub mod Serving

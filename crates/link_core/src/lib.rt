@@ -1,0 +1,28 @@
+//! One link: request after request, from its first byte to its end, over anything that answers
+//! requests.
+//!
+//! ```
+//! let mut room = Room::new(alloc)?;
+//! while door.accept()? {
+//!     let end = serve_link(&mut answers, &mut door, &mut room);
+//! }
+//! ```
+//!
+//! `serve_link` promises that the replies are those that `Answers` may give to the requests that the
+//! link's bytes are, one after another, in whatever pieces the bytes come, and it says how each way
+//! to end came about. A link is closed after 1,000,000 requests.
+#![tactic(auto)]
+
+mod answers;
+mod end;
+mod laws;
+mod replies;
+mod room;
+mod serve;
+mod write;
+
+pub use answers::Answers;
+pub use end::LinkEnd;
+pub use laws::link_completes;
+pub use room::Room;
+pub use serve::serve_link;

@@ -1,0 +1,4 @@
+pub mod Ask
+pub mod Laws
+pub mod Path
+pub mod Place

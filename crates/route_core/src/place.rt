@@ -1,0 +1,26 @@
+//! What a path names.
+ghost use Rattle.std.specs.Prelude.{◌≡◌, ℕ, List, map, option_map, Option, Some, None, OnOk, OnErr};
+ghost use Rattle.route_core.specs.Path as spec;
+ghost use Rattle.route_core.specs.Place as spec_place;
+
+/// What a path names.
+#[derive(Clone, Copy, Debug)]
+pub enum Place<'p> {
+    /// What tries a value against the schema.
+    Check,
+    /// The names of all documents.
+    Names,
+    /// A part of the document of that name.
+    Document { name: &'p str, part: Part },
+}
+
+/// A part of a document that has a path of its own.
+#[derive(Clone, Copy, Debug, PartialEq, Eq)]
+pub enum Part {
+    /// The document itself.
+    Whole,
+    Snapshot,
+    Patches,
+    /// What a reference leads to.
+    Reference,
+}
