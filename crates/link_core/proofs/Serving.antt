@@ -7,8 +7,8 @@ use Rattle.http_front.specs.Laws.{WholeStays}
 use Rattle.http_front.specs.Reply.{Reply, printed}
 use Rattle.http_front.specs.Request.{Request}
 use Rattle.link_core.specs.Exchange.{Told, Exchanges, ExchangesAll, TakesPart, BringsPiece, BringsNothing}
-use Rattle.link_core.specs.Inside.{input_end, IsByReply, IfFault, WritesLast, WritesReply, GivesReply, Refuses}
-use Rattle.link_core.specs.Link.{Replies, Turn, Turns, all_written, asked, Due, Tail, OwesReply, OwesRefusal, OwesMemory, Owes, Ends, ExchangesTo, IsSilent, IsWhole, Course, IsServed}
+use Rattle.link_core.specs.Inside.{input_end, IsByReply, WritesLast, WritesReply, GivesReply, Refuses}
+use Rattle.link_core.specs.Link.{Replies, Turn, Turns, all_written, asked, Due, Tail, OwesReply, OwesRefusal, OwesMemory, Owes, Ends, ExchangesTo, IsSilent, IsWhole, Course, IsServed, IfFault}
 use Rattle.link_core.specs.Replies.{refusal, memory_reply}
 use Rattle.link_core.specs.declared.end.LinkEnd.{LinkEnd}
 use Rattle.link_core.specs.declared.end.LinkEnd.TheVariants.{End, Closed, Inside, Memory, Fault}

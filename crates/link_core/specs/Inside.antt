@@ -1,10 +1,10 @@
 -- Words of private clauses: what the steps of serving a link do.
 use Rattle.std.specs.Prelude.{◌≡◌, ℕ, ◌⊎◌, List, [], ◌∷◌, Bool, true, false, Option, Some, None, ⊤}
-use Rattle.edge_core.specs.Door.{DoorState, DoorHasFailed, BothTold, Writes}
+use Rattle.edge_core.specs.Door.{DoorState, BothTold, Writes}
 use Rattle.http_front.specs.Reply.{Reply, printed}
 use Rattle.http_front.specs.Request.{Request}
 use Rattle.link_core.specs.Exchange.{Told, TakesPart}
-use Rattle.link_core.specs.Link.{Replies, Course}
+use Rattle.link_core.specs.Link.{Replies, Course, IfFault}
 use Rattle.link_core.specs.Replies.{refusal, memory_reply}
 use Rattle.link_core.specs.declared.end.LinkEnd.{LinkEnd}
 use Rattle.link_core.specs.declared.end.LinkEnd.TheVariants.{End, Closed, Inside, Memory, Fault}
@@ -54,11 +54,7 @@ abbrev pub Refuses : ℕ → LinkEnd → Told → Type 0
 Refuses status end told =
     WritesLast (printed true (refusal status)) Closed end told ⊎ WritesLast memory_reply Memory end told
 
--- a fault is told only where the door counted one
-abbrev pub IfFault : LinkEnd → DoorState → DoorState → Type 0
-IfFault Fault old new = DoorHasFailed old new
-IfFault _ old new = ⊤
-
+-- the same of an end that may not be told yet
 abbrev pub IfStops : Option LinkEnd → DoorState → DoorState → Type 0
 IfStops None old new = ⊤
 IfStops (Some end) old new = IfFault end old new

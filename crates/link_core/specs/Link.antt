@@ -1,7 +1,7 @@
 -- One link: the requests that its bytes are, what is written for each, and how the link ends.
-use Rattle.std.specs.Prelude.{◌≡◌, ℕ, ◌+◌, ◌<◌, ◌⊎◌, List, [], ◌∷◌, ◌++◌, length, Bool, true, false, ◌||◌, ◌==◌, Option, option_map}
+use Rattle.std.specs.Prelude.{◌≡◌, ℕ, ◌+◌, ◌<◌, ◌⊎◌, List, [], ◌∷◌, ◌++◌, length, Bool, true, false, ◌||◌, ◌==◌, Option, option_map, ⊤}
 use Rattle.std.specs.List.{flat_map}
-use Rattle.edge_core.specs.Door.{Links, BothTold, after_shut}
+use Rattle.edge_core.specs.Door.{Links, DoorState, DoorHasFailed, BothTold, after_shut}
 use Rattle.http_front.specs.Arrival.{Arrival, whole, partial, refused, Arrives}
 use Rattle.http_front.specs.Reply.{Reply, printed}
 use Rattle.http_front.specs.Request.{Request}
@@ -151,3 +151,8 @@ pub record Serves {S : Type 0} (replies : Replies S) (course : Course S) (end : 
   pub open_links : Option Links
   pub served : IsServed replies (record course { links = record { before = course.links.before; after = open_links } }) end
   pub shut : course.links.after ≡ option_map after_shut open_links
+
+-- a fault is told only where the door counted one
+abbrev pub IfFault : LinkEnd → DoorState → DoorState → Type 0
+IfFault Fault old new = DoorHasFailed old new
+IfFault _ old new = ⊤

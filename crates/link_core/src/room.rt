@@ -1,4 +1,4 @@
-ghost use Rattle.std.specs.Prelude.{◌≡◌, ◌≤◌, ◌<◌, ◌+◌, ◌-◌, [], length, drop, take, IfOk, OnErr, OnOk, IsTrue};
+ghost use Rattle.std.specs.Prelude.{◌≡◌, ◌≤◌, ◌<◌, ◌+◌, ◌-◌, [], length, drop, take, IfOk, OnErr, IsTrue};
 ghost use Rattle.edge_core.specs.Door.{BothTold, Reads, DoorHasFailed, KeepsDoor};
 ghost use Rattle.link_core.specs.Exchange.{ReadsMore};
 

@@ -1,9 +1,8 @@
 //! One link, from its first byte to its end.
-ghost use Rattle.std.specs.Prelude.{◌≡◌, ◌<◌, ◌≤◌, ◌-◌, false, true, [], length, IsTrue, IfOk, IfErr, OnErr};
-ghost use Rattle.edge_core.specs.Door.{BothTold, KeepsAttachment, KeepsDoor};
+ghost use Rattle.std.specs.Prelude.{◌≡◌, ◌<◌, ◌≤◌, ◌-◌, false, IsTrue};
+ghost use Rattle.edge_core.specs.Door.{KeepsAttachment, KeepsDoor};
 ghost use Rattle.http_front.specs.Answer.{IsHeadStatus};
-ghost use Rattle.http_front.specs.Arrival.{whole, partial, refused, Arrives};
-ghost use Rattle.http_front.specs.Request.{Request, seen};
+ghost use Rattle.http_front.specs.Request.{seen};
 ghost use Rattle.link_core.specs.Inside as inside;
 ghost use Rattle.link_core.specs.Link as link;
 
@@ -13,11 +12,8 @@ use crate::replies::{memory_bytes, print_refusal};
 use crate::room::Room;
 use crate::write::write_all;
 use edge_core::Door;
-use http_front::{
-    Next, Request, next_request, nothing_is_partial, requests_are_short, whole_stays,
-};
-use snap_core::Bytes;
-use std::alloc::{AllocError, Global};
+use http_front::{Next, Request, next_request, requests_are_short, whole_stays};
+use std::alloc::Global;
 
 /// How many requests a link takes. The last of them closes it.
 const MOST_REQUESTS: usize = 1_000_000;
@@ -36,7 +32,7 @@ pub fn serve_link<A: Answers, D: Door>(
       after = answers.new;
       links = record { before = (D.state door.old).links; after = (D.state door.new).links };
     }) result }
-    ensures failed { inside.IfFault result (D.state door.old) (D.state door.new) }
+    ensures failed { link.IfFault result (D.state door.old) (D.state door.new) }
     ensures none_open { (D.state door.new).is_open ≡ false }
     ensures keeps { KeepsAttachment (D.state door.old) (D.state door.new) }
 {
@@ -58,7 +54,7 @@ fn serve_open<A: Answers, D: Door>(
       after = answers.new;
       links = record { before = (D.state door.old).links; after = (D.state door.new).links };
     }) result }
-    ensures failed { inside.IfFault result (D.state door.old) (D.state door.new) }
+    ensures failed { link.IfFault result (D.state door.old) (D.state door.new) }
     ensures keeps { KeepsDoor (D.state door.old) (D.state door.new) }
 {
     whole_stays();
@@ -157,7 +153,7 @@ fn write_last<D: Door>(door: &mut D, bytes: &[u8], end: LinkEnd) -> LinkEnd
       before = (D.state door.old).links;
       after = (D.state door.new).links;
     }) }
-    ensures failed { inside.IfFault result (D.state door.old) (D.state door.new) }
+    ensures failed { link.IfFault result (D.state door.old) (D.state door.new) }
     ensures keeps { KeepsDoor (D.state door.old) (D.state door.new) }
 {
     match write_all(door, bytes) {
@@ -174,7 +170,7 @@ fn refuse<D: Door>(alloc: Global, door: &mut D, status: u16) -> LinkEnd
       before = (D.state door.old).links;
       after = (D.state door.new).links;
     }) }
-    ensures failed { inside.IfFault result (D.state door.old) (D.state door.new) }
+    ensures failed { link.IfFault result (D.state door.old) (D.state door.new) }
     ensures keeps { KeepsDoor (D.state door.old) (D.state door.new) }
 {
     match print_refusal(alloc, status) {

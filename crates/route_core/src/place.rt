@@ -1,7 +1,4 @@
 //! What a path names.
-ghost use Rattle.std.specs.Prelude.{◌≡◌, ℕ, List, map, option_map, Option, Some, None, OnOk, OnErr};
-ghost use Rattle.route_core.specs.Path as spec;
-ghost use Rattle.route_core.specs.Place as spec_place;
 
 /// What a path names.
 #[derive(Clone, Copy, Debug)]

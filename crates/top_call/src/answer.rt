@@ -1,5 +1,5 @@
 //! From the bytes of a link to the bytes that answer them.
-ghost use Rattle.std.specs.Prelude.{◌≡◌, ◌<◌, [], ◌∷◌, length, true, false, Some, None, IfOk, IfErr, IsSome, codes, if◌then◌else◌};
+ghost use Rattle.std.specs.Prelude.{◌≡◌, ◌<◌, [], ◌∷◌, length, true, Some, None, IfOk, IfErr, IsSome, codes, if◌then◌else◌};
 ghost use Rattle.snap_core.specs.Value.{text, IsPlain};
 ghost use Rattle.snap_core.specs.View.{view};
 ghost use Rattle.pointer_core.specs.Path as pointer;
