@@ -1,12 +1,10 @@
 //! Tests of the crates below the types, by their public calls: `list_core`, `snap_core`,
-//! `pointer_core`, `edge_core`, `http_front`, `link_core` and `snap_json`. They stand apart, since a crate that has
+//! `pointer_core`, `edge_core`, `http_front` and `link_core`. They stand apart, since a crate that has
 //! tests is proved twice.
 #![tactic(auto)]
 
 #[cfg(test)]
 mod door;
-#[cfg(test)]
-mod json;
 #[cfg(test)]
 mod links;
 #[cfg(test)]
