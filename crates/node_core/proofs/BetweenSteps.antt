@@ -1,10 +1,9 @@
 -- The steps of the loops that find the edits between two labelled values.
-use Rattle.std.proofs.Common.{◌≡◌, ℕ, zero, suc, ◌+◌, ◌-◌, ◌<◌, ◌≤◌, List, [], ◌∷◌, ◌++◌, length, get_or, take, drop, drop-cons, add-one, Bool, true, false, ◌&&◌, if◌then◌else◌, Option, Some, None, map, refl, sym, ◌∙◌, ap, append_assoc, append-nil, arith}
+use Rattle.std.proofs.Common.{◌≡◌, ℕ, zero, suc, ◌+◌, ◌-◌, ◌<◌, ◌≤◌, List, [], ◌∷◌, ◌++◌, length, get_or, take, drop, drop-cons, add-one, Bool, true, false, ◌&&◌, if◌then◌else◌, Option, Some, None, map, refl, sym, ◌∙◌, ap, append_assoc, arith}
 use Rattle.std.specs.Prelude.{is_some, min, nat_le}
 use Rattle.std.proofs.lemmas.Bool.Decides.{nat_tests}
 use Rattle.std.proofs.Math.ListN.{drop_of_length-le}
 use Rattle.std.proofs.lemmas.List.{drop-drop}
-use Rattle.std.specs.Option.{option_map}
 use Rattle.std.specs.List.{find}
 use Rattle.std.specs.Ordering.{nat_cmp, is_lt, is_eq}
 use Rattle.std.specs.Cmp.Lexicographic.{slice_cmp}
@@ -16,7 +15,7 @@ use Rattle.edit_core.specs.Edit.{to_item, to_entry, add, remove}
 use Rattle.edit_core.specs.Comparing.{is_equal, same_label}
 use Rattle.edit_core.specs.Between.{stays}
 use Rattle.edit_core.specs.Logged as logged
-use Rattle.edit_core.specs.LoggedBetween.{LoggedPart, all_behind, at_turn, of_whole, each_stays, logged_one_by_one, logged_edits_to, remains, logged_in_place, logged_removals, logged_additions, logged_moved, logged_items, count_below, held_first, past, logged_at, logged_settings, logged_cuts, logged_cleared, logged_entries, logged_between, logged_olds, logged_fields, part_of, entry_part}
+use Rattle.edit_core.specs.LoggedBetween.{LoggedPart, all_behind, at_turn, of_whole, each_stays, logged_one_by_one, logged_edits_to, remains, logged_in_place, logged_removals, logged_additions, logged_items, count_below, held_first, logged_settings, logged_cuts, logged_cleared, logged_entries, logged_between, logged_olds, logged_fields, part_of, entry_part}
 use Rattle.edit_core.proofs.Logged.{items-in, entries-in}
 use Rattle.node_core.specs.declared.labelled.Label.{Label}
 use Rattle.node_core.specs.declared.labelled.Labelled.{Labelled}

@@ -1,5 +1,5 @@
 -- Each case by its rule; and what each step of a loop adds.
-use Rattle.std.proofs.Common.{◌≡◌, ◌∙◌, ◌+◌, ◌≤◌, ◌<◌, List, [], ◌∷◌, ◌++◌, drop, length, IfOk, refl, sym, ap, subst, append-nil, arith}
+use Rattle.std.proofs.Common.{◌≡◌, ◌∙◌, ◌+◌, ◌≤◌, ◌<◌, List, [], ◌∷◌, ◌++◌, drop, length, IfOk, sym, ap, subst, append-nil, arith}
 use Rattle.std.specs.Prelude.{is_some, true, false}
 use Rattle.edit_core.specs.Edit.{to_entry, add}
 use Rattle.edit_core.specs.Logged as logged

@@ -1,5 +1,5 @@
 -- Each new key: the old entries before it are cut, and what is left behind it is still to be cleared.
-use Rattle.std.proofs.Common.{◌≡◌, ◌∙◌, ◌+◌, ◌-◌, ◌<◌, ◌≤◌, ◌++◌, take, drop, length, sym, ap, arith}
+use Rattle.std.proofs.Common.{◌≡◌, ◌∙◌, ◌+◌, ◌-◌, ◌<◌, ◌≤◌, ◌++◌, take, drop, length, sym, arith}
 use Rattle.std.specs.Prelude.{is_some, true, false}
 use Rattle.edit_core.specs.LoggedBetween.{count_below, held_first, logged_cuts, logged_cleared}
 use Rattle.node_core.specs.View.{fields, edits_of}
