@@ -38,3 +38,12 @@ record_of table kind stays ms = keyed (label_for kind stays) (field_templates (r
 abbrev pub new_label : Kind → Option Label → NewLabel
 new_label kind (Some l) = record { number = Some l.number.0; kind = kind }
 new_label kind None = record { number = None; kind = kind }
+
+-- the type of an array's items, and the kind of a model or a map
+abbrev pub array_type : Option Kind → Option TypeNo
+array_type (Some (Array u)) = Some u
+array_type _ = None
+
+abbrev pub record_kind : Option Kind → Option Kind
+record_kind (Some (Array u)) = None
+record_kind kind = kind

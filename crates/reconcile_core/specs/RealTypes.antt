@@ -2,7 +2,6 @@
 use Rattle.std.specs.Prelude.{ℕ, List, length, Option, Some, None, option_map}
 use Rattle.snap_core.specs.Value.{Value, list, dict}
 use Rattle.snap_core.specs.declared.number.ModelNo.{ModelNo}
-use Rattle.snap_core.specs.declared.number.TypeNo.{TypeNo}
 use Rattle.type_table.specs.declared.shape.Shape.{Shape}
 use Rattle.type_table.specs.declared.shape.Shape.TheVariants as shape
 use Rattle.type_table.specs.declared.shape.Property.{Property}

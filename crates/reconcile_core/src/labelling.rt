@@ -1,5 +1,5 @@
 //! The labels of values that are set.
-ghost use Rattle.std.specs.Prelude.{◌≡◌, ◌+◌, ℕ, drop, Some, None, IfOk, OnOk, IfSome, IfNone, option_map};
+ghost use Rattle.std.specs.Prelude.{◌≡◌, ◌+◌, ℕ, Some, None, IfOk, OnOk, IfSome, IfNone, option_map};
 ghost use Rattle.std.specs.Option.{option_copied};
 ghost use Rattle.snap_core.specs.Value.{IsPlain, ArePlain, ArePlainMembers};
 ghost use Rattle.snap_core.specs.View.{view, items_view, fields_view};
@@ -8,10 +8,9 @@ ghost use Rattle.edit_core.specs.Typing as typing;
 ghost use Rattle.edit_core.specs.Template as specs;
 ghost use Rattle.node_core.specs.View.{label, labelled, items, fields};
 ghost use Rattle.reconcile_core.specs.RealTypes.{typing_of};
-ghost use Rattle.reconcile_core.specs.Labelling.{template_of, changed_template, array_of, record_of, new_label};
-ghost use Rattle.reconcile_core.specs.Slots.{slot_values};
+ghost use Rattle.reconcile_core.specs.Labelling.{template_of, changed_template, array_of, record_of, new_label, array_type, record_kind};
 
-use crate::matching::{match_items, slot_item};
+use crate::matching::{match_items, slot_at};
 use crate::same::{entry_under, stays_as};
 use crate::typing::{kind_of, type_under};
 use edit_core::Kind;
@@ -42,17 +41,42 @@ pub fn label_value(
         return Ok(kept);
     }
     let kind = kind_of(types, t, new);
-    match (kind, new) {
-        (Some(Kind::Array(u)), Snap::List(news)) => {
-            let stays = standing(types, Kind::Array(u), old, new);
-            label_array(alloc, types, u, news.as_slice(), stays, next)
-        }
-        (Some(Kind::Array(_)), _) => Ok(Labelled::Leaf(new.clone_in(alloc)?)),
-        (Some(kind), Snap::Dict(news)) => {
-            let stays = standing(types, kind, old, new);
-            label_record(alloc, types, kind, news.as_slice(), stays, next)
-        }
+    match new {
+        Snap::List(news) => match array_type(kind) {
+            Some(u) => {
+                let stays = standing(types, Kind::Array(u), old, new);
+                label_array(alloc, types, u, news.as_slice(), stays, next)
+            }
+            None => Ok(Labelled::Leaf(new.clone_in(alloc)?)),
+        },
+        Snap::Dict(news) => match record_kind(kind) {
+            Some(kind) => {
+                let stays = standing(types, kind, old, new);
+                label_record(alloc, types, kind, news.as_slice(), stays, next)
+            }
+            None => Ok(Labelled::Leaf(new.clone_in(alloc)?)),
+        },
         _ => Ok(Labelled::Leaf(new.clone_in(alloc)?)),
+    }
+}
+
+/// The type of an array's items.
+fn array_type(kind: Option<Kind>) -> Option<TypeNo>
+    ensures { result ≡ array_type kind }
+{
+    match kind {
+        Some(Kind::Array(u)) => Some(u),
+        _ => None,
+    }
+}
+
+/// The kind of a model or a map.
+fn record_kind(kind: Option<Kind>) -> Option<Kind>
+    ensures { result ≡ record_kind kind }
+{
+    match kind {
+        Some(Kind::Array(_)) => None,
+        _ => kind,
     }
 }
 
@@ -125,7 +149,7 @@ fn label_array(
     let slots = match_items(alloc, types, u, olds, news)?;
     let mut parts = Parts::new(alloc);
     for i in 0..news.len() {
-        let old = slot_at(olds, slots.as_slice(), i);
+        let old = slot_at(olds, &slots, i);
         parts.push(label_value(alloc, types, u, &news[i], old, next)?)?;
     }
     Ok(Labelled::Array(label, parts))
@@ -151,24 +175,14 @@ fn label_record(
     let olds = fields_under(stays);
     let mut parts = Parts::new(alloc);
     for i in 0..news.len() {
-        let key = news[i].key.clone_in()?;
+        let new = &news[i];
+        let key = new.key.clone_in()?;
         let t = type_under(types, kind, key.text());
         let old = entry_under(olds, key.text());
-        let value = label_value(alloc, types, t, &news[i].value, old, next)?;
+        let value = label_value(alloc, types, t, &new.value, old, next)?;
         parts.push(LabelledField { key, value })?;
     }
     Ok(Labelled::Record(label, parts))
-}
-
-/// The old item in a slot, if there is such a slot.
-fn slot_at<'a>(olds: &'a [Labelled], slots: &[Option<usize>], i: usize) -> Option<&'a Labelled>
-    ensures { option_map labelled (option_copied result) ≡ specs.first_in (drop i (slot_values (items olds.now) slots.now)) }
-{
-    if i < slots.len() {
-        slot_item(olds, slots[i])
-    } else {
-        None
-    }
 }
 
 /// The label of the node that stays, or a new one.
@@ -203,7 +217,16 @@ fn items_under<'a>(stays: Option<&'a Labelled>) -> &'a [Labelled]
     ensures { items result.now ≡ specs.items_under (option_map labelled (option_copied stays.entry)) }
 {
     match stays {
-        Some(Labelled::Array(_, parts)) => parts.as_slice(),
+        Some(old) => items_of(old),
+        None => &[],
+    }
+}
+
+fn items_of(old: &Labelled) -> &[Labelled]
+    ensures { items result.now ≡ specs.items_under (Some (labelled old.now)) }
+{
+    match old {
+        Labelled::Array(_, parts) => parts.as_slice(),
         _ => &[],
     }
 }
@@ -213,7 +236,16 @@ fn fields_under<'a>(stays: Option<&'a Labelled>) -> &'a [LabelledField]
     ensures { fields result.now ≡ specs.entries_under (option_map labelled (option_copied stays.entry)) }
 {
     match stays {
-        Some(Labelled::Record(_, parts)) => parts.as_slice(),
+        Some(old) => fields_of(old),
+        None => &[],
+    }
+}
+
+fn fields_of(old: &Labelled) -> &[LabelledField]
+    ensures { fields result.now ≡ specs.entries_under (Some (labelled old.now)) }
+{
+    match old {
+        Labelled::Record(_, parts) => parts.as_slice(),
         _ => &[],
     }
 }

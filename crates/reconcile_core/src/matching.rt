@@ -1,13 +1,13 @@
 //! Which old item of an array each new one is matched with.
-ghost use Rattle.std.specs.Prelude.{◌≡◌, ◌<◌, map, length, replicate, slice_get, None, Some, IfOk, option_map};
+ghost use Rattle.std.specs.Prelude.{◌≡◌, ◌<◌, ◌&&◌, map, drop, length, replicate, slice_get, None, Some, IfOk, option_map};
 ghost use Rattle.std.specs.Option.{option_copied};
-ghost use Rattle.snap_core.specs.Value.{ArePlain};
+ghost use Rattle.snap_core.specs.Value.{ArePlain, IsPlain};
 ghost use Rattle.snap_core.specs.View.{view, items_view};
-ghost use Rattle.edit_core.specs.Typing.{seen};
 ghost use Rattle.edit_core.specs.Matching as matching;
+ghost use Rattle.edit_core.specs.Template.{first_in};
 ghost use Rattle.node_core.specs.View.{labelled, items};
 ghost use Rattle.reconcile_core.specs.RealTypes.{typing_of};
-ghost use Rattle.reconcile_core.specs.Slots.{slot_value, slot_values, slots_of};
+ghost use Rattle.reconcile_core.specs.Slots.{slot_value, slot_values, slots_of, same_in};
 
 use crate::same::same_item;
 use list_core::Parts;
@@ -44,7 +44,7 @@ pub fn match_items(
 /// Whether there are as many items, and the items at each index are the same.
 fn pairwise(types: &Types, t: TypeNo, olds: &[Labelled], news: &[Snap]) -> bool
     requires plain { ArePlain (items_view news.now) }
-    ensures { result ≡ matching.pairwise (λ old new. matching.same_item (typing_of types.now.table) t.0 (seen old) new) (items olds.now) (map view news.now) }
+    ensures { result ≡ matching.pairwise (same_in types.now.table t) (items olds.now) (map view news.now) }
 {
     if olds.len() != news.len() {
         return false;
@@ -71,18 +71,28 @@ fn open_slots(alloc: Global, count: usize) -> Result<Slots, AllocError>
     ensures { IfOk result (λ slots. slots ≡ replicate count None) }
 {
     let mut slots = Parts::new(alloc);
-    for _i in 0..count {
+    for _slot in 0..count {
         slots.push(None)?;
     }
     Ok(slots)
 }
 
 /// The old item of a slot.
-pub fn slot_item<'a>(olds: &'a [Labelled], slot: Option<usize>) -> Option<&'a Labelled>
+fn slot_item<'a>(olds: &'a [Labelled], slot: Option<usize>) -> Option<&'a Labelled>
     ensures { option_map labelled (option_copied result) ≡ slot_value (items olds.now) slot }
 {
     match slot {
         Some(i) => olds.get(i),
+        None => None,
+    }
+}
+
+/// The old item in a slot, if there is such a slot.
+pub fn slot_at<'a>(olds: &'a [Labelled], slots: &Slots, i: usize) -> Option<&'a Labelled>
+    ensures { option_map labelled (option_copied result) ≡ first_in (drop i (slot_values (items olds.now) slots.now)) }
+{
+    match slots.get(i) {
+        Some(slot) => slot_item(olds, *slot),
         None => None,
     }
 }
@@ -102,14 +112,22 @@ fn take_first(
     ensures count { length slots.new ≡ length slots.old }
     ensures taken { (old : _) → slice_get (items olds.now) i ≡ Some old
         → slots_of (map view news.now) (slot_values (items olds.now) slots.new)
-        ≡ matching.taken (λ old new. matching.same_item (typing_of types.now.table) t.0 (seen old) new) old
+        ≡ matching.taken (same_in types.now.table t) old
         (slots_of (map view news.now) (slot_values (items olds.now) slots.old)) }
 {
     for k in 0..news.len() {
-        let open = slot_item(olds, slots.as_slice()[k]).is_none();
-        if open && same_item(types, t, &olds[i], &news[k]) {
+        let slot = slot_at(olds, slots, k);
+        if takes(types, t, slot, &olds[i], &news[k]) {
             slots.set(k, Some(i));
             return;
         }
     }
+}
+
+/// Whether an old item takes a new one: the slot is open, and both are the same.
+fn takes(types: &Types, t: TypeNo, slot: Option<&Labelled>, old: &Labelled, new: &Snap) -> bool
+    requires plain { IsPlain (view new.now) }
+    ensures { result ≡ (matching.is_open (option_map labelled (option_copied slot.entry)) && same_in types.now.table t (labelled old.now) (view new.now)) }
+{
+    slot.is_none() && same_item(types, t, old, new)
 }

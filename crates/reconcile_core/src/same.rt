@@ -4,6 +4,8 @@ ghost use Rattle.std.specs.Option.{option_copied, option_map};
 ghost use Rattle.snap_core.specs.Value.{IsPlain, value_at};
 ghost use Rattle.snap_core.specs.View.{view, fields_view};
 ghost use Rattle.edit_core.specs.declared.kind.Kind.TheVariants.{Model};
+ghost use Rattle.edit_core.specs.Comparing.{is_equal};
+ghost use Rattle.edit_core.specs.Labelled.{bare};
 ghost use Rattle.edit_core.specs.Typing as specs;
 ghost use Rattle.edit_core.specs.Matching as matching;
 ghost use Rattle.edit_core.specs.Template.{entry_at};
@@ -96,7 +98,7 @@ fn equal_fields(name: &str, old: &Labelled, new: &Snap) -> bool
 }
 
 fn equal_parts(old: Option<&Labelled>, new: Option<&Snap>) -> bool
-    ensures { result ≡ specs.both_equal (option_map plain (option_copied old.entry)) (option_map view (option_copied new.entry)) }
+    ensures { result ≡ specs.both_equal (option_map bare (option_map labelled (option_copied old.entry))) (option_map view (option_copied new.entry)) }
 {
     match (old, new) {
         (Some(old), Some(new)) => old.equals(new),
@@ -108,9 +110,15 @@ fn equal_values(old: Option<&Snap>, new: Option<&Snap>) -> bool
     ensures { result ≡ specs.both_equal (option_map view (option_copied old.entry)) (option_map view (option_copied new.entry)) }
 {
     match (old, new) {
-        (Some(old), Some(new)) => old.equal(new),
+        (Some(old), Some(new)) => equals(old, new),
         _ => false,
     }
+}
+
+fn equals(old: &Snap, new: &Snap) -> bool
+    ensures { result ≡ is_equal (view old.now) (view new.now) }
+{
+    old.equal(new)
 }
 
 /// The value of the first field under a key.
