@@ -2,3 +2,4 @@ pub mod Plainness
 pub mod Matchings
 pub mod Labellings
 pub mod Writings
+pub mod Suiting

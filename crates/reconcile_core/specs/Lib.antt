@@ -2,3 +2,4 @@ pub mod RealTypes
 pub mod Slots
 pub mod Labelling
 pub mod Setting
+pub mod Suited

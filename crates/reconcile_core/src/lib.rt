@@ -13,12 +13,14 @@
 #![tactic(auto)]
 
 mod labelling;
+mod laws;
 mod matching;
 mod same;
 mod typing;
 mod written;
 
 pub use labelling::label_new;
+pub use laws::types_suit;
 pub use same::same_item;
 pub use typing::{kind_of, type_under};
 pub use written::{Written, reconcile, set_item};
