@@ -1,0 +1,5 @@
+pub mod Plainness
+pub mod Matchings
+pub mod Labellings
+pub mod Writings
+pub mod Suiting

@@ -1,0 +1,5 @@
+pub mod RealTypes
+pub mod Slots
+pub mod Labelling
+pub mod Setting
+pub mod Suited
