@@ -1,0 +1,54 @@
+-- The nodes of a tree: their parts, and what is on the way to them.
+use Rattle.std.specs.Prelude.{ℕ, zero, suc, List, [], ◌∷◌, Bool, false, ◌||◌, ◌==◌, Option, Some, None, if◌then◌else◌}
+use Rattle.std.specs.Ordering.{nat_cmp, is_lt}
+use Rattle.std.specs.Cmp.Lexicographic.{slice_cmp}
+use Rattle.std.specs.List.{list_any}
+use Rattle.snap_core.specs.declared.number.NodeNo.{NodeNo}
+use Rattle.edit_core.specs.declared.kind.Kind.{Kind}
+use Rattle.edit_core.specs.Labelled.{Label, Labelled, Entry, leaf, many, keyed}
+use Rattle.edit_core.specs.Edit.{Turn, to_item, to_entry}
+use Rattle.edit_core.specs.Typing.{Typing, label_of}
+use Rattle.tree_core.specs.Ways.{part_at}
+
+-- where an entry with a key stands, or would go: behind those with lower keys
+abbrev pub place_in : List ℕ → List Entry → ℕ
+place_in key [] = zero
+place_in key (e ∷ es) = if is_lt (slice_cmp nat_cmp e.0 key) then suc (place_in key es) else zero
+
+abbrev pub to_key : List ℕ → List Entry → Turn
+to_key key es = to_entry (place_in key es) key
+
+-- one of the running nodes has a label
+abbrev pub is_running : List NodeNo → Option Label → Bool
+is_running running (Some l) = list_any (λ (n : NodeNo). n.0 == l.number) running
+is_running running None = false
+
+-- A node may be written: one of the running nodes is the node or above it.
+abbrev mutual
+  pub may_write : List NodeNo → List Turn → Labelled → Bool
+  may_write running [] x = is_running running (label_of x)
+  may_write running (turn ∷ way) x = is_running running (label_of x) || may_write_in running way (part_at (turn ∷ []) x)
+
+  pub may_write_in : List NodeNo → List Turn → Option Labelled → Bool
+  may_write_in running way (Some x) = may_write running way x
+  may_write_in running way None = false
+
+-- the key of a turn; an item has none
+abbrev pub key_of : Turn → List ℕ
+key_of (to_item i) = []
+key_of (to_entry i key) = key
+
+-- the type of a node's part
+abbrev pub type_in : Typing → ℕ → Option Label → Turn → ℕ
+type_in typing t (Some l) turn = typing.type_under l.kind (key_of turn)
+type_in typing t None turn = t
+
+-- the type of the place at the end of a way, from a value of a type on
+abbrev mutual
+  pub type_at : Typing → ℕ → List Turn → Labelled → ℕ
+  type_at typing t [] x = t
+  type_at typing t (turn ∷ way) x = type_below typing (type_in typing t (label_of x) turn) way (part_at (turn ∷ []) x)
+
+  pub type_below : Typing → ℕ → List Turn → Option Labelled → ℕ
+  type_below typing t way (Some x) = type_at typing t way x
+  type_below typing t way None = t
