@@ -13,3 +13,4 @@ pub mod Around
 pub mod Numbers
 pub mod Labelling
 pub mod Rules
+pub mod Logged
