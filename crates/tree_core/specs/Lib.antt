@@ -1,8 +1,11 @@
 pub mod Ways
-pub mod Logged
 pub mod TypesTyping
 pub mod State
 pub mod Outcome
 pub mod Changed
 pub mod Nodes
+pub mod Write
 pub mod Writing
+pub mod Reading
+pub mod Settling
+pub mod Listing

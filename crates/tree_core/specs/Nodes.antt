@@ -1,5 +1,6 @@
 -- The nodes of a tree: their parts, and what is on the way to them.
-use Rattle.std.specs.Prelude.{ℕ, zero, suc, List, [], ◌∷◌, Bool, false, ◌||◌, ◌==◌, Option, Some, None, if◌then◌else◌}
+use Rattle.std.specs.Prelude.{ℕ, zero, suc, List, [], ◌∷◌, Bool, false, ◌||◌, ◌==◌, Option, Some, None, unwrap_or, if◌then◌else◌}
+use Rattle.std.specs.Option.{option_map}
 use Rattle.std.specs.Ordering.{nat_cmp, is_lt}
 use Rattle.std.specs.Cmp.Lexicographic.{slice_cmp}
 use Rattle.std.specs.List.{list_any}
@@ -24,14 +25,10 @@ is_running running (Some l) = list_any (λ (n : NodeNo). n.0 == l.number) runnin
 is_running running None = false
 
 -- A node may be written: one of the running nodes is the node or above it.
-abbrev mutual
-  pub may_write : List NodeNo → List Turn → Labelled → Bool
-  may_write running [] x = is_running running (label_of x)
-  may_write running (turn ∷ way) x = is_running running (label_of x) || may_write_in running way (part_at (turn ∷ []) x)
-
-  pub may_write_in : List NodeNo → List Turn → Option Labelled → Bool
-  may_write_in running way (Some x) = may_write running way x
-  may_write_in running way None = false
+abbrev pub may_write : List NodeNo → List Turn → Labelled → Bool
+may_write running [] x = is_running running (label_of x)
+may_write running (turn ∷ way) x =
+    is_running running (label_of x) || unwrap_or (option_map (λ part. may_write running way part) (part_at (turn ∷ []) x)) false
 
 -- the key of a turn; an item has none
 abbrev pub key_of : Turn → List ℕ
@@ -44,11 +41,7 @@ type_in typing t (Some l) turn = typing.type_under l.kind (key_of turn)
 type_in typing t None turn = t
 
 -- the type of the place at the end of a way, from a value of a type on
-abbrev mutual
-  pub type_at : Typing → ℕ → List Turn → Labelled → ℕ
-  type_at typing t [] x = t
-  type_at typing t (turn ∷ way) x = type_below typing (type_in typing t (label_of x) turn) way (part_at (turn ∷ []) x)
-
-  pub type_below : Typing → ℕ → List Turn → Option Labelled → ℕ
-  type_below typing t way (Some x) = type_at typing t way x
-  type_below typing t way None = t
+abbrev pub type_at : Typing → ℕ → List Turn → Labelled → ℕ
+type_at typing t [] x = t
+type_at typing t (turn ∷ way) x =
+    unwrap_or (option_map (λ part. type_at typing (type_in typing t (label_of x) turn) way part) (part_at (turn ∷ []) x)) t

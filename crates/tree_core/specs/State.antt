@@ -2,7 +2,7 @@
 use Rattle.std.specs.Prelude.{ℕ, ◌+◌, List, [], ◌∷◌, ◌++◌, length, map, nat_le, if◌then◌else◌}
 use Rattle.patch_core.specs.declared.patch.Patch.{Patch}
 use Rattle.edit_core.specs.Labelled.{Labelled}
-use Rattle.tree_core.specs.Logged.{LoggedEdit, before_all, patch_of_logged}
+use Rattle.edit_core.specs.Logged.{LoggedEdit, before_log, patch_of_logged}
 
 -- the edits of each call since the last commit that changed something, the newest call first
 abbrev pub Calls : Type 0
@@ -38,7 +38,7 @@ mark_of s = count_of s.calls
 -- The trail: after each of the calls, and before the first, the length of the log and the labelled snapshot; the newest first.
 abbrev pub trail_from : Labelled → Calls → List (ℕ × Labelled)
 trail_from x [] = (0, x) ∷ []
-trail_from x (call ∷ calls) = (count_of (call ∷ calls), x) ∷ trail_from (before_all call x) calls
+trail_from x (call ∷ calls) = (count_of (call ∷ calls), x) ∷ trail_from (before_log call x) calls
 
 abbrev pub trail_of : State → List (ℕ × Labelled)
 trail_of s = trail_from s.tree s.calls
@@ -52,7 +52,7 @@ pub record Past : Type 0 where
 abbrev pub past_within : ℕ → Labelled → Calls → Past
 past_within most x [] = record { tree = x; calls = [] }
 past_within most x (call ∷ calls) =
-    if nat_le (count_of (call ∷ calls)) most then record { tree = x; calls = call ∷ calls } else past_within most (before_all call x) calls
+    if nat_le (count_of (call ∷ calls)) most then record { tree = x; calls = call ∷ calls } else past_within most (before_log call x) calls
 
 -- Rolling back to a mark. No number is given out twice, so the next number stays.
 abbrev pub rolled_back : ℕ → State → State

@@ -1,9 +1,8 @@
--- Writing one place: what a change makes of the node that it is written to, or the first rule that it doesn't meet.
-use Rattle.std.specs.Prelude.{ℕ, List, [], ◌∷◌, ◌++◌, length, map, slice_get, Bool, false, ◌||◌, not, unwrap_or, nat_le, Option, Some, None, Ok, Err, decimal, if◌then◌else◌}
+-- Writing one place: what a write makes of the node that it is written to, or the first rule that it doesn't meet.
+use Rattle.std.specs.Prelude.{ℕ, List, [], ◌∷◌, ◌++◌, length, map, slice_get, Bool, true, false, ◌||◌, not, unwrap_or, nat_le, Option, Some, None, Ok, Err, decimal, if◌then◌else◌}
 use Rattle.std.specs.Ordering.{int_eq}
 use Rattle.std.specs.Str.{bytes_eq}
 use Rattle.snap_core.specs.Value.{Value, integer, text, list, dict}
-use Rattle.snap_core.specs.View.{view}
 use Rattle.snap_core.specs.declared.number.ModelNo.{ModelNo}
 use Rattle.snap_core.specs.declared.number.NodeNo.{NodeNo}
 use Rattle.pointer_core.specs.Path.{Path}
@@ -25,8 +24,7 @@ use Rattle.edit_core.specs.Reconciling.{Setting}
 use Rattle.edit_core.specs.Plain.{token_of}
 use Rattle.tree_core.specs.declared.place.Place.{Place}
 use Rattle.tree_core.specs.declared.place.Place.TheVariants.{Whole, Prop, Item, Key}
-use Rattle.tree_core.specs.declared.place.Change.{Change}
-use Rattle.tree_core.specs.declared.place.Change.TheVariants.{Set, Insert, Remove}
+use Rattle.tree_core.specs.Write.{Write, set, insert, remove}
 use Rattle.tree_core.specs.TypesTyping.{typing_of, root_type, model_type}
 use Rattle.tree_core.specs.Ways.{way_to, part_at}
 use Rattle.tree_core.specs.Nodes.{may_write, type_at, to_key}
@@ -38,7 +36,7 @@ pub record Tree : Type 0 where
   pub root : Labelled
   pub next : ℕ
 
--- what a change of a node goes by
+-- what a write to a node goes by
 pub record Writing : Type 0 where
   pub types : Catalog
   -- the path of the node that is written, and the type of its place
@@ -88,9 +86,9 @@ unless_fixed node None rest = rest
 -- A node as a whole.
 
 -- a node is set, and neither put in nor taken out
-abbrev pub snapshot_in : Path → Change → Outcome Value
-snapshot_in named (Set v) = Ok (view v)
-snapshot_in named change = refuse named rule.Path
+abbrev pub snapshot_in : Path → Write → Outcome Value
+snapshot_in named (set v) = Ok v
+snapshot_in named write = refuse named rule.Path
 
 -- a model's own type, and for an array and a map the type of its place
 abbrev pub own_type : Catalog → Kind → ℕ → ℕ
@@ -103,9 +101,9 @@ node_making types (kind.Model m) t v = making types (model_type types m) (Some v
 node_making types kind t v =
     provided (is_kind ((typing_of types.table).kind_of t v) kind) [] rule.Mistyped (making types t (Some v))
 
-abbrev pub whole_written : Writing → Kind → Change → Labelled → Outcome Changed
-whole_written w kind change x = do
-  v ← snapshot_in w.named change
+abbrev pub whole_written : Writing → Kind → Write → Labelled → Outcome Changed
+whole_written w kind write x = do
+  v ← snapshot_in w.named write
   unless_fixed w.node (other_identifier (typing_in w) kind (bare x) v) (do
     made ← seen_from w.node (node_making w.types kind w.type v)
     Ok (value_set (typing_in w) (setting (own_type w.types kind w.type) x made w.next)))
@@ -113,10 +111,10 @@ whole_written w kind change x = do
 -- A property of a model.
 
 -- a property is set, and not taken out
-abbrev pub property_in : Path → Change → Outcome Value
-property_in named (Set v) = Ok (view v)
-property_in named (Insert v) = Ok (view v)
-property_in named Remove = refuse named rule.Operation
+abbrev pub property_in : Path → Write → Outcome Value
+property_in named (set v) = Ok v
+property_in named (insert v) = Ok v
+property_in named remove = refuse named rule.Operation
 
 -- the parts of a model or a map, and the one of them that is written
 pub record Record : Type 0 where
@@ -139,10 +137,10 @@ abbrev pub entry_set : Writing → Record → Labelled → Value → Changed
 entry_set w r old made =
     placed (to_key r.key r.entries ∷ []) (node_in r) (value_set (typing_in w) (setting (entry_type w r) old made w.next))
 
-abbrev pub property_written : Writing → Record → Change → Outcome Changed
-property_written w r change = do
+abbrev pub property_written : Writing → Record → Write → Outcome Changed
+property_written w r write = do
   old ← or_refuse (entry_at r.key r.entries) w.named rule.Path
-  v ← property_in w.named change
+  v ← property_in w.named write
   provided (not (is_identifier (typing_in w) r.label.kind r.key) || is_equal (bare old) v) (entry_path w r) rule.Fixed (do
     made ← seen_from (entry_path w r) (making w.types (entry_type w r) (Some v))
     Ok (entry_set w r old made))
@@ -160,68 +158,75 @@ key_set w r made (Some old) = entry_set w r old made
 key_set w r made None =
     part_added (to_key r.key r.entries) (template (by_first (typing_in w)) (entry_type w r) None made) w.next (node_in r)
 
-abbrev pub key_written : Writing → Record → Change → Outcome Changed
-key_written w r Remove = do
+abbrev pub key_put : Writing → Record → Value → Outcome Changed
+key_put w r v = do
+  made ← seen_from (entry_path w r) (entry_making w.types (entry_type w r) r.key v)
+  Ok (key_set w r made (entry_at r.key r.entries))
+
+abbrev pub key_written : Writing → Record → Write → Outcome Changed
+key_written w r (set v) = key_put w r v
+key_written w r (insert v) = key_put w r v
+key_written w r remove = do
   old ← or_refuse (entry_at r.key r.entries) w.named rule.Path
   Ok (part_removed (to_key r.key r.entries) old w.next (node_in r))
-key_written w r (Set v) = do
-  made ← seen_from (entry_path w r) (entry_making w.types (entry_type w r) r.key (view v))
-  Ok (key_set w r made (entry_at r.key r.entries))
-key_written w r (Insert v) = do
-  made ← seen_from (entry_path w r) (entry_making w.types (entry_type w r) r.key (view v))
-  Ok (key_set w r made (entry_at r.key r.entries))
 
 -- An item of an array.
 
--- the items of an array, their type, and the index that is written
+-- the items of an array, and the index that is written
 pub record Array : Type 0 where
   pub label : Label
   pub items : List Labelled
-  pub type : ℕ
   pub index : ℕ
 
 abbrev pub array_in : Array → Labelled
 array_in a = many a.label (branches a.items)
 
-abbrev pub item_making : Writing → Array → Value → Outcome Value
-item_making w a v = seen_from (w.node ++ decimal a.index ∷ []) (making w.types a.type (Some v))
+abbrev pub item_type : Writing → Array → ℕ
+item_type w a = (typing_in w).type_under a.label.kind []
 
-abbrev pub item_written : Writing → Array → Change → Outcome Changed
-item_written w a (Set v) = do
+abbrev pub item_making : Writing → Array → Value → Outcome Value
+item_making w a v = seen_from (w.node ++ decimal a.index ∷ []) (making w.types (item_type w a) (Some v))
+
+abbrev pub item_written : Writing → Array → Write → Outcome Changed
+item_written w a (set v) = do
   old ← or_refuse (slice_get a.items a.index) w.named rule.Index
-  made ← item_making w a (view v)
-  Ok (placed (to_item a.index ∷ []) (array_in a) (one_item_set (typing_in w) (setting a.type old made w.next)))
-item_written w a (Insert v) = provided (nat_le a.index (length a.items)) w.named rule.Index (do
-  made ← item_making w a (view v)
-  Ok (part_added (to_item a.index) (template (by_first (typing_in w)) a.type None made) w.next (array_in a)))
-item_written w a Remove = do
+  made ← item_making w a v
+  Ok (placed (to_item a.index ∷ []) (array_in a) (one_item_set (typing_in w) (setting (item_type w a) old made w.next)))
+item_written w a (insert v) = provided (nat_le a.index (length a.items)) w.named rule.Index (do
+  made ← item_making w a v
+  Ok (part_added (to_item a.index) (template (by_first (typing_in w)) (item_type w a) None made) w.next (array_in a)))
+item_written w a remove = do
   old ← or_refuse (slice_get a.items a.index) w.named rule.Index
   Ok (part_removed (to_item a.index) old w.next (array_in a))
 
 -- A place of a node: its form suits the node's kind.
 
-abbrev pub kind_refused : Outcome Changed
-kind_refused = refuse [] rule.Kind
+abbrev pub is_model : Kind → Bool
+is_model (kind.Model m) = true
+is_model kind = false
 
-abbrev pub item_of : Writing → Label → List Labelled → ℕ → Kind → Change → Outcome Changed
-item_of w l xs i (kind.Array t) change = item_written w (record { label = l; items = xs; type = t.0; index = i }) change
-item_of w l xs i kind change = kind_refused
+abbrev pub is_map : Kind → Bool
+is_map (kind.Map t) = true
+is_map kind = false
 
-abbrev pub property_of : Writing → Record → Kind → Change → Outcome Changed
-property_of w r (kind.Model m) change = property_written w r change
-property_of w r kind change = kind_refused
+abbrev pub is_array : Kind → Bool
+is_array (kind.Array t) = true
+is_array kind = false
 
-abbrev pub value_of : Writing → Record → Kind → Change → Outcome Changed
-value_of w r (kind.Map t) change = key_written w r change
-value_of w r kind change = kind_refused
+-- the rest, where the kind is one of those
+abbrev pub suited : Bool → Outcome Changed → Outcome Changed
+suited suits rest = provided suits [] rule.Kind rest
 
-abbrev pub node_written : Writing → Place → Change → Labelled → Outcome Changed
-node_written w (Whole n) change (many l bs) = whole_written w l.kind change (many l bs)
-node_written w (Whole n) change (keyed l es) = whole_written w l.kind change (keyed l es)
-node_written w (Prop n name) change (keyed l es) = property_of w (record { label = l; entries = entries_in es; key = name }) l.kind change
-node_written w (Item n i) change (many l bs) = item_of w l (items_in bs) i l.kind change
-node_written w (Key n key) change (keyed l es) = value_of w (record { label = l; entries = entries_in es; key = key }) l.kind change
-node_written w place change x = kind_refused
+abbrev pub node_written : Writing → Place → Write → Labelled → Outcome Changed
+node_written w (Whole n) write (many l bs) = whole_written w l.kind write (many l bs)
+node_written w (Whole n) write (keyed l es) = whole_written w l.kind write (keyed l es)
+node_written w (Prop n name) write (keyed l es) =
+    suited (is_model l.kind) (property_written w (record { label = l; entries = entries_in es; key = name }) write)
+node_written w (Item n i) write (many l bs) =
+    suited (is_array l.kind) (item_written w (record { label = l; items = items_in bs; index = i }) write)
+node_written w (Key n key) write (keyed l es) =
+    suited (is_map l.kind) (key_written w (record { label = l; entries = entries_in es; key = key }) write)
+node_written w place write x = refuse [] rule.Kind
 
 -- A place of a tree.
 
@@ -260,12 +265,12 @@ writing_at types target way tree = record {
 }
 
 -- what a write makes of a tree, before the tree is judged as a whole
-abbrev pub place_written : Catalog → Target → Change → Tree → Outcome Changed
-place_written types target change tree = do
+abbrev pub place_written : Catalog → Target → Write → Tree → Outcome Changed
+place_written types target write tree = do
   way ← or_refuse (way_to (node_no target.place) tree.root) [] rule.Dead
   provided (may_write target.running way tree.root) (name_for way target) rule.Protected (do
     node ← or_refuse (part_at way tree.root) [] rule.Dead
-    changed ← node_written (writing_at types target way tree) target.place change node
+    changed ← node_written (writing_at types target way tree) target.place write node
     Ok (placed way tree.root changed))
 
 -- the whole tree is neither too heavy nor too deep
@@ -281,8 +286,8 @@ abbrev pub undoubled : Catalog → Changed → Outcome Changed
 undoubled types changed = unless_doubled (doubled_of (identifiers_of types (bare changed.value))) changed
 
 -- what a write makes of a tree, or the first rule that it doesn't meet
-abbrev pub written : Catalog → Target → Change → Tree → Outcome Changed
-written types target change tree = do
-  changed ← place_written types target change tree
+abbrev pub written : Catalog → Target → Write → Tree → Outcome Changed
+written types target write tree = do
+  changed ← place_written types target write tree
   within ← limited_tree changed
   undoubled types within

@@ -1,0 +1,2 @@
+mod Office
+mod Examples
