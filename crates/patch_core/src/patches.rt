@@ -1,4 +1,4 @@
-ghost use Rattle.std.specs.Prelude.{◌≡◌, [], ◌∷◌, ◌++◌, ◌<◌, length, slice_get, ◌↔◌, IsTrue, OnOk, OnErr, IfErr};
+ghost use Rattle.std.specs.Prelude.{◌≡◌, [], ◌∷◌, ◌++◌, ◌<◌, length, slice_get, take, ◌↔◌, IsTrue, OnOk, OnErr, IfErr};
 ghost use Rattle.std.specs.Option.{option_copied};
 ghost use Rattle.list_core.specs.Outcome.{Gives};
 ghost use Rattle.patch_core.specs.Inverse.{back};
@@ -82,6 +82,26 @@ impl Patches {
             return Err(AllocError);
         }
         self.patches.push(patch)
+    }
+
+    /// Adds the patches of another list at the end. They are gone where memory runs out, which is said of a full
+    /// list too.
+    pub fn extend(&mut self, others: Patches) -> Result<(), AllocError>
+        ensures ok { OnOk result (self.new ≡ self.old ++ others) }
+        ensures err { OnErr result (self.new ≡ self.old) }
+    {
+        if others.len() >= LIMIT - self.patches.len() {
+            return Err(AllocError);
+        }
+        let Patches { patches } = others;
+        self.patches.extend(patches)
+    }
+
+    /// Leaves the first `len` patches; all of them where there are no more.
+    pub fn truncate(&mut self, len: usize)
+        ensures { self.new ≡ take len self.old }
+    {
+        self.patches.truncate(len);
     }
 
     /// An equal list.
