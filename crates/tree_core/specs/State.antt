@@ -59,6 +59,13 @@ abbrev pub rolled_back : ℕ → State → State
 rolled_back mark s =
     let past : Past = past_within mark s.tree s.calls in record { tree = past.tree; next = s.next; calls = past.calls }
 
+-- the newest call taken back
+abbrev pub without_newest : State → State
+without_newest s = without s.calls where
+  without : Calls → State
+  without [] = s
+  without (call ∷ calls) = record { tree = before_log call s.tree; next = s.next; calls = calls }
+
 -- committing: the snapshot stays, and can't be taken back any more
 abbrev pub committed : State → State
 committed s = record { tree = s.tree; next = s.next; calls = [] }

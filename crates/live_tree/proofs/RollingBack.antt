@@ -1,0 +1,30 @@
+-- Calls are taken back one by one.
+use Rattle.std.proofs.Common.{◌≡◌, ℕ, ◌+◌, ◌<◌, ◌≤◌, List, [], ◌∷◌, length, cond, leb, refl, sym, ap, ◌∙◌, arith}
+use Rattle.std.proofs.lemmas.Bool.{lt-leb, le-leb, cond-false, cond-true}
+use Rattle.edit_core.specs.Labelled.{Labelled}
+use Rattle.edit_core.specs.Logged.{LoggedEdit, before_log}
+use Rattle.tree_core.specs.State.{State, Calls, Past, count_of, mark_of, past_within, rolled_back, without_newest}
+
+-- while there are more edits than at the mark, the newest call goes
+further : (mark : ℕ) (x : Labelled) (next : ℕ) (calls : Calls)
+    → mark < count_of calls
+    → rolled_back mark (without_newest (record { tree = x; next = next; calls = calls })) ≡ rolled_back mark (record { tree = x; next = next; calls = calls })
+further mark x next [] h = absurd (omega arith)
+further mark x next (call ∷ calls) h =
+    let past : Past → State = λ p. record { tree = p.tree; next = next; calls = p.calls } in
+    ap past (sym (cond-false (leb (count_of (call ∷ calls)) mark) (record { tree = x; calls = call ∷ calls }) (past_within mark (before_log call x) calls) (lt-leb _ _ h)))
+
+pub taken_back : (mark : ℕ) (s : State) → mark < mark_of s → rolled_back mark (without_newest s) ≡ rolled_back mark s
+taken_back mark s h = further mark s.tree s.next s.calls h
+
+-- then all stays
+nothing : (mark : ℕ) (x : Labelled) (next : ℕ) (calls : Calls)
+    → count_of calls ≤ mark
+    → rolled_back mark (record { tree = x; next = next; calls = calls }) ≡ record { tree = x; next = next; calls = calls }
+nothing mark x next [] h = refl
+nothing mark x next (call ∷ calls) h =
+    let past : Past → State = λ p. record { tree = p.tree; next = next; calls = p.calls } in
+    ap past (cond-true (leb (count_of (call ∷ calls)) mark) (record { tree = x; calls = call ∷ calls }) (past_within mark (before_log call x) calls) (le-leb _ _ h))
+
+pub at_mark : (mark : ℕ) (s : State) → mark_of s ≤ mark → rolled_back mark s ≡ s
+at_mark mark s h = nothing mark s.tree s.next s.calls h
