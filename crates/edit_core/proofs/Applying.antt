@@ -5,12 +5,12 @@ use Rattle.edit_core.specs.Labelled as labelled
 use Rattle.edit_core.specs.Edit.{Edit, within, Leads, replaced, one_item, one_entry, in_item, in_entry, LeadInTurn, no_edits, one_edit}
 use Rattle.edit_core.specs.Application.{item_changed, entry_changed, after_within, Fits, after_edit, FitInTurn, after_edits}
 
-item-changed : (change : Labelled → Labelled) (before after : List Labelled) (x : Labelled)
+pub item-changed : (change : Labelled → Labelled) (before after : List Labelled) (x : Labelled)
     → item_changed (length before) change (branches (before ++ x ∷ after)) ≡ branches (before ++ change x ∷ after)
 item-changed change [] after x = refl
 item-changed change (b ∷ before) after x = ap (branch b) (item-changed change before after x)
 
-entry-changed : (change : Labelled → Labelled) (before after : List Entry) (k : List ℕ) (x : Labelled)
+pub entry-changed : (change : Labelled → Labelled) (before after : List Entry) (k : List ℕ) (x : Labelled)
     → entry_changed (length before) change (entries (before ++ (k, x) ∷ after)) ≡ entries (before ++ (k, change x) ∷ after)
 entry-changed change [] after k x = refl
 entry-changed change (b ∷ before) after k x = ap (labelled.entry b.0 b.1) (entry-changed change before after k x)

@@ -26,3 +26,5 @@ pub mod RuleItems
 pub mod RuleFields
 pub mod ByRules
 pub mod ItemSetting
+pub mod Logged
+pub mod LoggedBetween

@@ -7,6 +7,8 @@ use Rattle.edit_core.specs.Edit.{Edit, Leads, LeadInTurn, inverse_of}
 use Rattle.edit_core.specs.Application.{Fits, after_edit, FitInTurn, after_edits, back}
 use Rattle.edit_core.specs.Around.{Around, standing_in, seen_from}
 use Rattle.edit_core.specs.Between.{stays, edits_between}
+use Rattle.edit_core.specs.Logged.{logged, after_logged, before_logged, patch_of_logged, after_log, before_log}
+use Rattle.edit_core.specs.LoggedBetween.{logged_between}
 use Rattle.edit_core.specs.Plain.{IsShort, patch_of}
 use Rattle.edit_core.specs.Typing.{Typing, Rules, seen}
 use Rattle.edit_core.specs.Matching.{first_matching, by_first, same_item}
@@ -116,3 +118,17 @@ pub record SetsOneItem (typing : Typing) (s : Setting) : Type 0 where
 
 abbrev pub ItemsAreSetAlone : Type 0
 ItemsAreSetAlone = (typing : Typing) (s : Setting) → SetsOneItem typing s
+
+-- A logged edit says all that its edit says: what stands around the place is no part of the log.
+pub record LoggedEditsSayAll : Type 0 where
+  -- applied to the snapshot before, it gives the one after, and taken back from that, the one before
+  pub after : (x y : Labelled) (e : Edit) → Leads x e y → after_logged (logged e) x ≡ y
+  pub before : (x y : Labelled) (e : Edit) → Leads x e y → before_logged (logged e) y ≡ x
+  pub patch : (e : Edit) → patch_of_logged (logged e) ≡ patch_of e
+  -- likewise many
+  pub all_after : (x y : Labelled) (es : List Edit) → LeadInTurn x es y → after_log (map logged es) x ≡ y
+  pub all_before : (x y : Labelled) (es : List Edit) → LeadInTurn x es y → before_log (map logged es) y ≡ x
+
+-- the edits between two labelled snapshots, told by index alone, are those that the log keeps of them
+abbrev pub LoggedBetweenIsBetween : Type 0
+LoggedBetweenIsBetween = (old new : Labelled) → logged_between old new ≡ map logged (edits_between old new)

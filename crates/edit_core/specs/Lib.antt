@@ -14,3 +14,4 @@ pub mod Numbers
 pub mod Labelling
 pub mod Rules
 pub mod Logged
+pub mod LoggedBetween

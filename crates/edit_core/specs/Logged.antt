@@ -1,8 +1,8 @@
 -- Edits as a log keeps them: the way to the place and what happens there, without what stands around it.
-use Rattle.std.specs.Prelude.{ℕ, ◌+◌, List, [], ◌∷◌, ◌++◌, length, map, reverse, take, drop}
+use Rattle.std.specs.Prelude.{ℕ, ◌+◌, List, [], ◌∷◌, ◌++◌, length, map, take, drop}
 use Rattle.patch_core.specs.declared.patch.Patch.{Patch}
 use Rattle.edit_core.specs.Labelled.{Labelled, many, keyed, branches, entries, items_in, entries_in}
-use Rattle.edit_core.specs.Edit.{Edit, Change, Operation, Turn, add, remove, replace, old_in, new_in, entries_at, at_item, at_entry, to_item, to_entry, whole, within, inverse_operation}
+use Rattle.edit_core.specs.Edit.{Edit, Change, Operation, Turn, replace, old_in, new_in, entries_at, at_item, at_entry, to_item, to_entry, whole, within, inverse_operation}
 use Rattle.edit_core.specs.Application.{item_changed, entry_changed}
 use Rattle.edit_core.specs.Plain.{token_of, operation_in, patch_at}
 

@@ -1,4 +1,4 @@
-ghost use Rattle.edit_core.specs.Laws.{EditsLeadToOne, EditsAreTakenBack, EditsLeadAcross, ReconcilingLeadsToTheNew, PatchesLeadToTheNew, NumbersDiffer, FirstMatchesOnce, EqualChangesNothing, LabelsFollowTypes, ReconcilingFollowsTheRules, MatchedItemsStay, ItemsAreSetAlone};
+ghost use Rattle.edit_core.specs.Laws.{EditsLeadToOne, EditsAreTakenBack, EditsLeadAcross, ReconcilingLeadsToTheNew, PatchesLeadToTheNew, NumbersDiffer, FirstMatchesOnce, EqualChangesNothing, LabelsFollowTypes, ReconcilingFollowsTheRules, MatchedItemsStay, ItemsAreSetAlone, LoggedEditsSayAll, LoggedBetweenIsBetween};
 
 /// An edit that leads from a labelled snapshot leads to one alone.
 pub fn edits_lead_to_one()
@@ -58,4 +58,14 @@ pub fn matched_items_stay()
 /// An item that is set alone is reconciled where it is the same as the old one, and otherwise replaced.
 pub fn items_are_set_alone()
     ensures { ItemsAreSetAlone }
+{}
+
+/// A logged edit leads to one snapshot and back from it, and is one patch, as its edit.
+pub fn logged_edits_say_all()
+    ensures { LoggedEditsSayAll }
+{}
+
+/// The edits between two labelled snapshots, told by index alone, are those that the log keeps of them.
+pub fn logged_between_is_between()
+    ensures { LoggedBetweenIsBetween }
 {}
