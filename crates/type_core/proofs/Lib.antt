@@ -26,3 +26,4 @@ pub mod Oneness
 pub mod LevelLemmas
 pub mod TakenLemmas
 pub mod ApartLemmas
+pub mod KeyedMaking

@@ -215,3 +215,8 @@ limited (Ok v) = if is_within v then Ok v else refused Large
 -- what making comes to
 abbrev pub making : Catalog → ℕ → Option Value → Outcome Value
 making types t given = limited (made_by types.table types.defaults t given)
+
+-- what a map's type, by the type of its values, makes of a value under a key
+abbrev pub entry_making : Catalog → ℕ → List ℕ → Value → Outcome Value
+entry_making types t key v =
+    limited (keyed key (ident_in types.table (judged_by types.table v t) v) (maker_of types.table types.defaults v t))

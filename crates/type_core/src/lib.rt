@@ -31,7 +31,7 @@ mod unions;
 
 pub use doubling::doubled;
 pub use draft::Draft;
-pub use making::{MakeError, make};
+pub use making::{MakeError, make, make_entry};
 pub use rule::DraftError;
 pub use sameness::types_are_one;
 pub use shape::{Condition, Conditions, Members, ModelType, Properties, Property, Shape, Texts};

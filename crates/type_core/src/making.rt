@@ -6,7 +6,9 @@ ghost use Rattle.std.specs.Fmt.{char_count};
 ghost use Rattle.snap_core.specs.Value.{Value, IsPlain, ArePlain, ArePlainMembers};
 ghost use Rattle.snap_core.specs.View.{view, items_view, fields_view};
 ghost use Rattle.type_core.specs.Making as specs;
-ghost use Rattle.type_core.specs.Making.{maker_of, making};
+ghost use Rattle.type_core.specs.Making.{maker_of, making, entry_making};
+ghost use Rattle.type_core.specs.Identifiers.{ident_in};
+ghost use Rattle.type_core.specs.Judging.{judged_by};
 ghost use Rattle.type_core.specs.Makes.{MakesWithin};
 ghost use Rattle.type_core.specs.Made.{Answers, IfRefused, value_of, refused_as};
 ghost use Rattle.type_core.specs.Sound.{IsSound};
@@ -14,7 +16,7 @@ ghost use Rattle.type_core.specs.declared.making.MakeError.TheVariants.{Memory};
 
 use crate::judging::judged;
 use crate::limits::fits;
-use crate::records::{make_absent, make_entries, make_items, make_properties};
+use crate::records::{keyed_by, make_absent, make_entries, make_items, make_properties};
 use crate::scalars::takes;
 use crate::shape::{Condition, Shape};
 use crate::tagged::Tagged;
@@ -72,7 +74,44 @@ pub fn make(
     limited(alloc, made)
 }
 
+/// What a map with values of the type `t` makes of a value under a key.
+///
+/// Refused as `make` refuses it, and as `key`, before `large`, where a model with an identifier makes the value and
+/// the key is another text.
+pub fn make_entry(
+    alloc: Global,
+    types: &Types,
+    t: TypeNo,
+    key: &str,
+    given: &Snap,
+) -> Result<Snap, MakeError>
+    requires plain { IsPlain (view given.now) }
+    ensures made { Answers view result (entry_making types.now t.0 key.now (view given.now)) }
+    ensures plain { IfOk result (λ s. IsPlain (view s)) }
+{
+    let made = make_keyed(alloc, types, t, key, given)?;
+    limited(alloc, made)
+}
+
 /// The same, limits aside.
+fn make_keyed(
+    alloc: Global,
+    types: &Types,
+    t: TypeNo,
+    key: &str,
+    given: &Snap,
+) -> Result<Snap, MakeError>
+    requires plain { IsPlain (view given.now) }
+    ensures made { let v = view given.now in let table = types.now.table in
+        Answers view result (specs.keyed key.now (ident_in table (judged_by table v t.0) v) (maker_of table types.now.defaults v t.0)) }
+    ensures sound { IsSound types.now }
+{
+    let (tagged, defaults) = types.inside();
+    let made = make_value(alloc, tagged, defaults, t, given);
+    keyed_by(alloc, tagged, t, key, given, made)
+}
+
+/// What a type makes of a value or of none, limits aside.
 fn make_any(
     alloc: Global,
     types: &Types,

@@ -116,10 +116,26 @@ fn keyed(
     ensures { let v = view field.now.value in (outcome : Outcome Value) → Answers view made outcome
         → Answers view result (specs.keyed field.now.key (ident_in types.now (judged_by types.now v of.0) v) outcome) }
 {
+    keyed_by(alloc, types, of, field.key.text(), &field.value, made)
+}
+
+/// The same, by the key and the value.
+pub fn keyed_by(
+    alloc: Global,
+    types: &Tagged,
+    of: TypeNo,
+    key: &str,
+    given: &Snap,
+    made: Result<Snap, MakeError>,
+) -> Result<Snap, MakeError>
+    requires plain { IsPlain (view given.now) }
+    ensures { let v = view given.now in (outcome : Outcome Value) → Answers view made outcome
+        → Answers view result (specs.keyed key.now (ident_in types.now (judged_by types.now v of.0) v) outcome) }
+{
     let made = made?;
-    let shape = judged(types, &field.value, of);
-    let identifier = own_identifier(types.table(), shape, &field.value);
-    if !is_keyed(alloc, field.key.text(), identifier)? {
+    let shape = judged(types, given, of);
+    let identifier = own_identifier(types.table(), shape, given);
+    if !is_keyed(alloc, key, identifier)? {
         return Err(refused(alloc, Rule::Key));
     }
     Ok(made)
