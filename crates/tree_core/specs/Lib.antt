@@ -4,8 +4,11 @@ pub mod State
 pub mod Outcome
 pub mod Changed
 pub mod Nodes
-pub mod Write
-pub mod Writing
 pub mod Reading
 pub mod Settling
 pub mod Listing
+pub mod Write
+pub mod Writing
+pub mod Errors
+pub mod Answers
+pub mod Written

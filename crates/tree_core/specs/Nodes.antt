@@ -6,9 +6,9 @@ use Rattle.std.specs.Cmp.Lexicographic.{slice_cmp}
 use Rattle.std.specs.List.{list_any}
 use Rattle.snap_core.specs.declared.number.NodeNo.{NodeNo}
 use Rattle.edit_core.specs.declared.kind.Kind.{Kind}
-use Rattle.edit_core.specs.Labelled.{Label, Labelled, Entry, leaf, many, keyed}
+use Rattle.edit_core.specs.Labelled.{Label, Labelled, Entry, many, keyed, items_in, entries_in}
 use Rattle.edit_core.specs.Edit.{Turn, to_item, to_entry}
-use Rattle.edit_core.specs.Typing.{Typing, label_of}
+use Rattle.edit_core.specs.Typing.{Typing, label_of, kind_in}
 use Rattle.tree_core.specs.Ways.{part_at}
 
 -- where an entry with a key stands, or would go: behind those with lower keys
@@ -35,13 +35,25 @@ abbrev pub key_of : Turn → List ℕ
 key_of (to_item i) = []
 key_of (to_entry i key) = key
 
--- the type of a node's part
-abbrev pub type_in : Typing → ℕ → Option Label → Turn → ℕ
-type_in typing t (Some l) turn = typing.type_under l.kind (key_of turn)
-type_in typing t None turn = t
+-- the items of an array, and the entries of a model or a map
+abbrev pub items_of : Labelled → List Labelled
+items_of (many l bs) = items_in bs
+items_of x = []
+
+abbrev pub entries_of : Labelled → List Entry
+entries_of (keyed l es) = entries_in es
+entries_of x = []
+
+-- the type of a node's part under a key; an item has none
+abbrev pub type_by : Typing → Option Kind → List ℕ → ℕ
+type_by typing (Some kind) key = typing.type_under kind key
+type_by typing None key = 0
+
+abbrev pub part_type : Typing → Labelled → List ℕ → ℕ
+part_type typing node key = type_by typing (kind_in (label_of node)) key
 
 -- the type of the place at the end of a way, from a value of a type on
 abbrev pub type_at : Typing → ℕ → List Turn → Labelled → ℕ
 type_at typing t [] x = t
 type_at typing t (turn ∷ way) x =
-    unwrap_or (option_map (λ part. type_at typing (type_in typing t (label_of x) turn) way part) (part_at (turn ∷ []) x)) t
+    unwrap_or (option_map (λ part. type_at typing (part_type typing x (key_of turn)) way part) (part_at (turn ∷ []) x)) t

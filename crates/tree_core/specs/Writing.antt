@@ -1,5 +1,5 @@
 -- Writing one place: what a write makes of the node that it is written to, or the first rule that it doesn't meet.
-use Rattle.std.specs.Prelude.{ℕ, List, [], ◌∷◌, ◌++◌, length, map, slice_get, Bool, true, false, ◌||◌, not, unwrap_or, nat_le, Option, Some, None, Ok, Err, decimal, if◌then◌else◌}
+use Rattle.std.specs.Prelude.{ℕ, List, [], ◌∷◌, ◌++◌, length, map, slice_get, Bool, true, false, ◌&&◌, not, unwrap_or, nat_le, Option, Some, None, Ok, Err, decimal, if◌then◌else◌}
 use Rattle.std.specs.Ordering.{int_eq}
 use Rattle.std.specs.Str.{bytes_eq}
 use Rattle.snap_core.specs.Value.{Value, integer, text, list, dict}
@@ -14,20 +14,20 @@ use Rattle.type_core.specs.Making.{Outcome, making, maker_of, limited, keyed as 
 use Rattle.type_core.specs.Doubled.{identifiers_of, doubled_of}
 use Rattle.edit_core.specs.declared.kind.Kind.{Kind}
 use Rattle.edit_core.specs.declared.kind.Kind.TheVariants as kind
-use Rattle.edit_core.specs.Comparing.{is_equal, same_kind}
-use Rattle.edit_core.specs.Labelled.{Label, Labelled, Entry, leaf, many, keyed, items_in, entries_in, branches, entries, bare}
+use Rattle.edit_core.specs.Comparing.{is_equal}
+use Rattle.edit_core.specs.Labelled.{Labelled, bare}
 use Rattle.edit_core.specs.Edit.{Turn, to_item}
-use Rattle.edit_core.specs.Typing.{Typing, field_at, is_kind}
+use Rattle.edit_core.specs.Typing.{Typing, label_of, kind_in, field_at, is_kind}
 use Rattle.edit_core.specs.Template.{template, entry_at}
 use Rattle.edit_core.specs.Matching.{by_first}
 use Rattle.edit_core.specs.Reconciling.{Setting}
 use Rattle.edit_core.specs.Plain.{token_of}
 use Rattle.tree_core.specs.declared.place.Place.{Place}
-use Rattle.tree_core.specs.declared.place.Place.TheVariants.{Whole, Prop, Item, Key}
+use Rattle.tree_core.specs.declared.place.Place.TheVariants as place
 use Rattle.tree_core.specs.Write.{Write, set, insert, remove}
 use Rattle.tree_core.specs.TypesTyping.{typing_of, root_type, model_type}
 use Rattle.tree_core.specs.Ways.{way_to, part_at}
-use Rattle.tree_core.specs.Nodes.{may_write, type_at, to_key}
+use Rattle.tree_core.specs.Nodes.{may_write, type_at, to_key, entries_of, items_of, part_type}
 use Rattle.tree_core.specs.Outcome.{◌>>=◌, refuse, provided, or_refuse, seen_from}
 use Rattle.tree_core.specs.Changed.{Changed, placed, value_set, one_item_set, part_added, part_removed}
 
@@ -60,9 +60,12 @@ abbrev pub is_name : List ℕ → Option (List ℕ) → Bool
 is_name name (Some other) = bytes_eq name other
 is_name name None = false
 
-abbrev pub is_identifier : Typing → Kind → List ℕ → Bool
-is_identifier typing (kind.Model m) name = is_name name (typing.identifier_of m)
-is_identifier typing kind name = false
+abbrev pub is_identifier_of : Typing → Option Kind → List ℕ → Bool
+is_identifier_of typing (Some (kind.Model m)) name = is_name name (typing.identifier_of m)
+is_identifier_of typing kind name = false
+
+abbrev pub is_identifier : Typing → Labelled → List ℕ → Bool
+is_identifier typing node name = is_identifier_of typing (kind_in (label_of node)) name
 
 -- two texts, or two integers, that aren't the same
 abbrev pub are_others : Option Value → Option Value → Bool
@@ -102,11 +105,11 @@ node_making types kind t v =
     provided (is_kind ((typing_of types.table).kind_of t v) kind) [] rule.Mistyped (making types t (Some v))
 
 abbrev pub whole_written : Writing → Kind → Write → Labelled → Outcome Changed
-whole_written w kind write x = do
+whole_written w kind write node = do
   v ← snapshot_in w.named write
-  unless_fixed w.node (other_identifier (typing_in w) kind (bare x) v) (do
+  unless_fixed w.node (other_identifier (typing_in w) kind (bare node) v) (do
     made ← seen_from w.node (node_making w.types kind w.type v)
-    Ok (value_set (typing_in w) (setting (own_type w.types kind w.type) x made w.next)))
+    Ok (value_set (typing_in w) (setting (own_type w.types kind w.type) node made w.next)))
 
 -- A property of a model.
 
@@ -116,34 +119,40 @@ property_in named (set v) = Ok v
 property_in named (insert v) = Ok v
 property_in named remove = refuse named rule.Operation
 
--- the parts of a model or a map, and the one of them that is written
-pub record Record : Type 0 where
-  pub label : Label
-  pub entries : List Entry
+-- a part of a node that is written, by its key
+pub record Entry : Type 0 where
+  pub node : Labelled
   pub key : List ℕ
 
-abbrev pub node_in : Record → Labelled
-node_in r = keyed r.label (entries r.entries)
+-- its path and its type, and what it holds
+abbrev pub entry_path : Writing → Entry → Path
+entry_path w e = w.node ++ e.key ∷ []
 
--- the path and the type of the written entry
-abbrev pub entry_path : Writing → Record → Path
-entry_path w r = w.node ++ r.key ∷ []
+abbrev pub entry_type : Writing → Entry → ℕ
+entry_type w e = part_type (typing_in w) e.node e.key
 
-abbrev pub entry_type : Writing → Record → ℕ
-entry_type w r = (typing_in w).type_under r.label.kind r.key
+abbrev pub held_at : Entry → Option Labelled
+held_at e = entry_at e.key (entries_of e.node)
+
+abbrev pub turn_to : Entry → Turn
+turn_to e = to_key e.key (entries_of e.node)
+
+-- the identifier's property is given another value
+abbrev pub is_renaming : Writing → Entry → Value → Value → Bool
+is_renaming w e old new = is_identifier (typing_in w) e.node e.key && not (is_equal old new)
 
 -- another value in the place of the one that is held
-abbrev pub entry_set : Writing → Record → Labelled → Value → Changed
-entry_set w r old made =
-    placed (to_key r.key r.entries ∷ []) (node_in r) (value_set (typing_in w) (setting (entry_type w r) old made w.next))
+abbrev pub entry_set : Writing → Entry → Labelled → Value → Changed
+entry_set w e old made =
+    placed (turn_to e ∷ []) e.node (value_set (typing_in w) (setting (entry_type w e) old made w.next))
 
-abbrev pub property_written : Writing → Record → Write → Outcome Changed
-property_written w r write = do
-  old ← or_refuse (entry_at r.key r.entries) w.named rule.Path
+abbrev pub property_written : Writing → Entry → Write → Outcome Changed
+property_written w e write = do
+  old ← or_refuse (held_at e) w.named rule.Path
   v ← property_in w.named write
-  provided (not (is_identifier (typing_in w) r.label.kind r.key) || is_equal (bare old) v) (entry_path w r) rule.Fixed (do
-    made ← seen_from (entry_path w r) (making w.types (entry_type w r) (Some v))
-    Ok (entry_set w r old made))
+  provided (not (is_renaming w e (bare old) v)) (entry_path w e) rule.Fixed (do
+    made ← seen_from (entry_path w e) (making w.types (entry_type w e) (Some v))
+    Ok (entry_set w e old made))
 
 -- A value of a map.
 
@@ -153,51 +162,56 @@ entry_making types t key v =
     limited (under_key key (ident_in types.table (judged_by types.table v t) v) (maker_of types.table types.defaults v t))
 
 -- in the place of the held value, or as a new entry
-abbrev pub key_set : Writing → Record → Value → Option Labelled → Changed
-key_set w r made (Some old) = entry_set w r old made
-key_set w r made None =
-    part_added (to_key r.key r.entries) (template (by_first (typing_in w)) (entry_type w r) None made) w.next (node_in r)
+abbrev pub key_set : Writing → Entry → Value → Option Labelled → Changed
+key_set w e made (Some old) = entry_set w e old made
+key_set w e made None =
+    part_added (turn_to e) (template (by_first (typing_in w)) (entry_type w e) None made) w.next e.node
 
-abbrev pub key_put : Writing → Record → Value → Outcome Changed
-key_put w r v = do
-  made ← seen_from (entry_path w r) (entry_making w.types (entry_type w r) r.key v)
-  Ok (key_set w r made (entry_at r.key r.entries))
+abbrev pub key_put : Writing → Entry → Value → Outcome Changed
+key_put w e v = do
+  made ← seen_from (entry_path w e) (entry_making w.types (entry_type w e) e.key v)
+  Ok (key_set w e made (held_at e))
 
-abbrev pub key_written : Writing → Record → Write → Outcome Changed
-key_written w r (set v) = key_put w r v
-key_written w r (insert v) = key_put w r v
-key_written w r remove = do
-  old ← or_refuse (entry_at r.key r.entries) w.named rule.Path
-  Ok (part_removed (to_key r.key r.entries) old w.next (node_in r))
+abbrev pub key_written : Writing → Entry → Write → Outcome Changed
+key_written w e (set v) = key_put w e v
+key_written w e (insert v) = key_put w e v
+key_written w e remove = do
+  old ← or_refuse (held_at e) w.named rule.Path
+  Ok (part_removed (turn_to e) old w.next e.node)
 
 -- An item of an array.
 
--- the items of an array, and the index that is written
-pub record Array : Type 0 where
-  pub label : Label
-  pub items : List Labelled
+-- an item that is written, by its index
+pub record Item : Type 0 where
+  pub node : Labelled
   pub index : ℕ
 
-abbrev pub array_in : Array → Labelled
-array_in a = many a.label (branches a.items)
+abbrev pub item_type : Writing → Item → ℕ
+item_type w a = part_type (typing_in w) a.node []
 
-abbrev pub item_type : Writing → Array → ℕ
-item_type w a = (typing_in w).type_under a.label.kind []
-
-abbrev pub item_making : Writing → Array → Value → Outcome Value
+abbrev pub item_making : Writing → Item → Value → Outcome Value
 item_making w a v = seen_from (w.node ++ decimal a.index ∷ []) (making w.types (item_type w a) (Some v))
 
-abbrev pub item_written : Writing → Array → Write → Outcome Changed
-item_written w a (set v) = do
-  old ← or_refuse (slice_get a.items a.index) w.named rule.Index
+abbrev pub item_replaced : Writing → Item → Value → Outcome Changed
+item_replaced w a v = do
+  old ← or_refuse (slice_get (items_of a.node) a.index) w.named rule.Index
   made ← item_making w a v
-  Ok (placed (to_item a.index ∷ []) (array_in a) (one_item_set (typing_in w) (setting (item_type w a) old made w.next)))
-item_written w a (insert v) = provided (nat_le a.index (length a.items)) w.named rule.Index (do
+  Ok (placed (to_item a.index ∷ []) a.node (one_item_set (typing_in w) (setting (item_type w a) old made w.next)))
+
+abbrev pub item_inserted : Writing → Item → Value → Outcome Changed
+item_inserted w a v = provided (nat_le a.index (length (items_of a.node))) w.named rule.Index (do
   made ← item_making w a v
-  Ok (part_added (to_item a.index) (template (by_first (typing_in w)) (item_type w a) None made) w.next (array_in a)))
-item_written w a remove = do
-  old ← or_refuse (slice_get a.items a.index) w.named rule.Index
-  Ok (part_removed (to_item a.index) old w.next (array_in a))
+  Ok (part_added (to_item a.index) (template (by_first (typing_in w)) (item_type w a) None made) w.next a.node))
+
+abbrev pub item_removed : Writing → Item → Outcome Changed
+item_removed w a = do
+  old ← or_refuse (slice_get (items_of a.node) a.index) w.named rule.Index
+  Ok (part_removed (to_item a.index) old w.next a.node)
+
+abbrev pub item_written : Writing → Item → Write → Outcome Changed
+item_written w a (set v) = item_replaced w a v
+item_written w a (insert v) = item_inserted w a v
+item_written w a remove = item_removed w a
 
 -- A place of a node: its form suits the node's kind.
 
@@ -217,31 +231,31 @@ is_array kind = false
 abbrev pub suited : Bool → Outcome Changed → Outcome Changed
 suited suits rest = provided suits [] rule.Kind rest
 
+abbrev pub kind_written : Writing → Place → Write → Labelled → Kind → Outcome Changed
+kind_written w (place.Whole n) write node kind = whole_written w kind write node
+kind_written w (place.Prop n name) write node kind = suited (is_model kind) (property_written w (record { node = node; key = name }) write)
+kind_written w (place.Item n i) write node kind = suited (is_array kind) (item_written w (record { node = node; index = i }) write)
+kind_written w (place.Key n key) write node kind = suited (is_map kind) (key_written w (record { node = node; key = key }) write)
+
 abbrev pub node_written : Writing → Place → Write → Labelled → Outcome Changed
-node_written w (Whole n) write (many l bs) = whole_written w l.kind write (many l bs)
-node_written w (Whole n) write (keyed l es) = whole_written w l.kind write (keyed l es)
-node_written w (Prop n name) write (keyed l es) =
-    suited (is_model l.kind) (property_written w (record { label = l; entries = entries_in es; key = name }) write)
-node_written w (Item n i) write (many l bs) =
-    suited (is_array l.kind) (item_written w (record { label = l; items = items_in bs; index = i }) write)
-node_written w (Key n key) write (keyed l es) =
-    suited (is_map l.kind) (key_written w (record { label = l; entries = entries_in es; key = key }) write)
-node_written w place write x = refuse [] rule.Kind
+node_written w place write node = do
+  label ← or_refuse (label_of node) [] rule.Kind
+  kind_written w place write node label.kind
 
 -- A place of a tree.
 
 abbrev pub node_no : Place → ℕ
-node_no (Whole n) = n.0
-node_no (Prop n name) = n.0
-node_no (Item n i) = n.0
-node_no (Key n key) = n.0
+node_no (place.Whole n) = n.0
+node_no (place.Prop n name) = n.0
+node_no (place.Item n i) = n.0
+node_no (place.Key n key) = n.0
 
 -- what leads from a node to a place of it
 abbrev pub place_tokens : Place → Path
-place_tokens (Whole n) = []
-place_tokens (Prop n name) = name ∷ []
-place_tokens (Item n i) = decimal i ∷ []
-place_tokens (Key n key) = key ∷ []
+place_tokens (place.Whole n) = []
+place_tokens (place.Prop n name) = name ∷ []
+place_tokens (place.Item n i) = decimal i ∷ []
+place_tokens (place.Key n key) = key ∷ []
 
 abbrev pub path_of : List Turn → Path
 path_of way = map token_of way

@@ -1,6 +1,17 @@
 //! Writing to a tree of nodes that keep their identity: what a write leaves, and why it is refused.
 #![tactic(auto)]
 
+mod changed;
+mod error;
+mod fixed;
+mod making;
+mod parts;
+mod paths;
 mod place;
+mod stubs;
+mod whole;
+mod write;
+mod writing;
 
+pub use error::TreeError;
 pub use place::{Change, Place};
