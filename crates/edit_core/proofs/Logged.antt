@@ -9,11 +9,11 @@ use Rattle.edit_core.specs.Logged.{place_of, logged, spliced, after_way, after_l
 use Rattle.edit_core.proofs.Applying.{item-changed, entry-changed}
 use Rattle.edit_core.proofs.TakenBack.{back-one}
 
-items-in : (xs : List Labelled) → items_in (branches xs) ≡ xs
+pub items-in : (xs : List Labelled) → items_in (branches xs) ≡ xs
 items-in [] = refl
 items-in (x ∷ xs) = ap (λ ys. x ∷ ys) (items-in xs)
 
-entries-in : (es : List Entry) → entries_in (entries es) ≡ es
+pub entries-in : (es : List Entry) → entries_in (entries es) ≡ es
 entries-in [] = refl
 entries-in (e ∷ es) = ap (λ fs. e ∷ fs) (entries-in es)
 

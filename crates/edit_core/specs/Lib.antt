@@ -15,3 +15,4 @@ pub mod Labelling
 pub mod Rules
 pub mod Logged
 pub mod LoggedBetween
+pub mod Ways

@@ -1,0 +1,4 @@
+pub mod Views
+pub mod PlainValues
+pub mod PartWays
+pub mod Patches

@@ -1,5 +1,6 @@
 -- The labelled value, the way and the logged edit that Rust's types stand for.
-use Rattle.std.specs.Prelude.{ℕ, List, [], ◌∷◌, map}
+use Rattle.std.specs.Prelude.{ℕ, List, map}
+use Rattle.snap_core.specs.Value.{Value, Items, Fields}
 use Rattle.snap_core.specs.View.{view}
 use Rattle.edit_core.specs.Labelled as edits
 use Rattle.edit_core.specs.Labelled.{leaf, many, keyed, branches, entries, Entry}
@@ -58,3 +59,22 @@ edit_of e = record { way = way e.way; operation = operation e.operation }
 
 abbrev pub edits_of : List LoggedEdit → List logged.LoggedEdit
 edits_of es = map edit_of es
+
+-- the plain value, items and fields, without labels
+abbrev pub plain : Labelled → Value
+plain x = edits.bare (labelled x)
+
+abbrev pub plain_items : List Labelled → Items
+plain_items xs = edits.bare_items (branches (items xs))
+
+abbrev pub plain_fields : List LabelledField → Fields
+plain_fields fs = edits.bare_fields (entries (fields fs))
+
+abbrev pub plain_values : List Labelled → List Value
+plain_values xs = map plain xs
+
+abbrev pub plain_entry : LabelledField → List ℕ × Value
+plain_entry f = ((field f).0, edits.bare (field f).1)
+
+abbrev pub plain_entries : List LabelledField → List (List ℕ × Value)
+plain_entries fs = map plain_entry fs

@@ -3,8 +3,10 @@
 
 mod edit;
 mod labelled;
+mod plain;
+mod replacing;
 mod way;
 
 pub use edit::{LoggedEdit, Operation};
 pub use labelled::{Entries, Items, Label, Labelled, LabelledField};
-pub use way::{Turn, Way};
+pub use way::{Turn, Way, copy_way, pointer_of};

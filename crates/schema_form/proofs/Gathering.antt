@@ -1,5 +1,5 @@
 -- What is gathered from entry to entry, without a fault, names what is there in the end.
-use Rattle.std.proofs.Common.{◌≡◌, ◌≤◌, ℕ, zero, suc, ◌+◌, ◌<◌, List, [], ◌∷◌, ◌++◌, length, map, Bool, true, false, Option, Some, None, All, codes, slice_get, if◌then◌else◌, refl, sym, ◌∙◌, ap, subst, arith, length-append, append_assoc}
+use Rattle.std.proofs.Common.{◌≡◌, ◌≤◌, ℕ, suc, ◌+◌, ◌<◌, List, [], ◌∷◌, ◌++◌, length, map, true, false, Option, Some, None, All, codes, slice_get, if◌then◌else◌, refl, sym, ◌∙◌, ap, subst, arith, length-append, append_assoc}
 use Rattle.std.specs.Str.{bytes_eq}
 use Rattle.std.proofs.lemmas.List.{append-nil, length-map}
 use Rattle.std.proofs.lemmas.List.Elements.{All-nil, All-cons, All-append}
@@ -7,10 +7,9 @@ use Rattle.snap_core.specs.Name.{is_name}
 use Rattle.snap_core.specs.Value.{Value, null, boolean, integer, text, list, dict, no_members, member, IsOrdered, AreOrderedMembers, AreAscending, keys_of, Fields}
 use Rattle.snap_core.specs.declared.number.ModelNo.{ModelNo}
 use Rattle.snap_core.proofs.Keys.{AreKeyed-ordered}
-use Rattle.type_core.specs.declared.shape.Property.{Property}
-use Rattle.type_core.specs.Table.{names_of, AreNamed, AreTyped}
+use Rattle.type_table.specs.declared.shape.Property.{Property}
+use Rattle.type_table.specs.Table.{names_of, AreTyped}
 use Rattle.pointer_core.specs.declared.schema_rule.SchemaRule.TheVariants.{Shape}
-use Rattle.schema_form.specs.declared.fault.Fault.{Fault}
 use Rattle.schema_form.specs.declared.form.SchemaForm.{SchemaForm}
 use Rattle.schema_form.specs.declared.form.EntryNo.{EntryNo}
 use Rattle.schema_form.specs.declared.form.Entry.{Entry}
@@ -23,7 +22,7 @@ use Rattle.schema_form.specs.declared.entries.Gathered.{Gathered}
 use Rattle.schema_form.specs.Names.{has_key, entry_from, entry_of}
 use Rattle.schema_form.specs.Faults.{here, unless, under, member_faults, key_faults, is_expression, is_free, property_faults, properties_faults, model_part_faults, model_faults, model_in, formed_faults, entry_faults, type_faults, entries}
 use Rattle.schema_form.specs.Layout.{type_no, type_laid, properties_laid, properties_of, properties_in, with_model, with_type, with_formed, with_entry, with_entries, nothing, gathered}
-use Rattle.schema_form.specs.Pointers.{IsPlaceAmong, HasProperty}
+use Rattle.schema_form.specs.Pointers.{HasProperty}
 use Rattle.schema_form.specs.Form.{IsModelIn}
 use Rattle.schema_form.proofs.Orders.{model-ordered}
 use Rattle.schema_form.proofs.NoFaults.{append_none, under_none, here_some}
@@ -96,7 +95,7 @@ get-there [] ys x = refl
 get-there (w ∷ xs) ys x = get-there xs ys x
 
 -- what stands at the end of a list stands there in a longer one
-get-behind : {A : Type 0} (xs ys zs : List A) (x : A) → zs ≡ (xs ++ x ∷ []) ++ ys → slice_get zs (length xs) ≡ Some x
+pub get-behind : {A : Type 0} (xs ys zs : List A) (x : A) → zs ≡ (xs ++ x ∷ []) ++ ys → slice_get zs (length xs) ≡ Some x
 get-behind xs ys zs x h = ap (λ ws. slice_get ws (length xs)) h ∙ get-there xs ys x
 
 -- the properties of a model

@@ -1,9 +1,9 @@
 -- Steps of a walk that lays type expressions: what is laid so far, and what is still to come behind it.
-use Rattle.std.proofs.Common.{◌≡◌, ◌≢◌, ◌≤◌, ℕ, ◌+◌, ◌<◌, List, [], ◌∷◌, ◌++◌, length, get_or, drop, Option, Some, Result, Ok, Err, option_map, refl, sym, ◌∙◌, ap, subst, arith, drop-cons, add-one, append_assoc, length-append}
+use Rattle.std.proofs.Common.{◌≡◌, ◌≤◌, ℕ, ◌+◌, ◌<◌, List, [], ◌∷◌, ◌++◌, length, get_or, drop, Some, Result, Ok, Err, option_map, refl, sym, ◌∙◌, ap, subst, arith, drop-cons, add-one, append_assoc, length-append}
 use Rattle.std.specs.Prelude.{OnOk}
 use Rattle.std.proofs.Math.ListN.{set}
 use Rattle.std.proofs.lemmas.List.{append-nil, drop_all, set_at}
-use Rattle.snap_core.specs.Value.{Value, list, dict, no_parts, part, no_members, member, Items, Fields}
+use Rattle.snap_core.specs.Value.{Value, list, dict, no_parts, part, member, Fields}
 use Rattle.snap_core.specs.declared.snap.Snap.{Snap}
 use Rattle.snap_core.specs.declared.snap.Field.{Field}
 use Rattle.snap_core.specs.declared.number.TypeNo.{TypeNo}
@@ -11,8 +11,7 @@ use Rattle.snap_core.specs.declared.number.ModelNo.{ModelNo}
 use Rattle.snap_core.specs.View.{view, items_view, fields_view}
 use Rattle.snap_core.specs.Unview.{snap_of}
 use Rattle.snap_core.proofs.Views.{entry-fields, snap_of-view}
-use Rattle.type_core.specs.declared.shape.Property.{Property}
-use Rattle.type_core.specs.declared.shape.Condition.{Condition}
+use Rattle.type_table.specs.declared.shape.Condition.{Condition}
 use Rattle.schema_form.specs.declared.form.Word.{Word}
 use Rattle.schema_form.specs.declared.bases.Base.{Base}
 use Rattle.schema_form.specs.Names.{word_in}
@@ -20,7 +19,6 @@ use Rattle.schema_form.specs.declared.form.Expression.{Expression}
 use Rattle.schema_form.specs.declared.form.Place.{Place}
 use Rattle.schema_form.specs.declared.form.Place.TheVariants as place
 use Rattle.schema_form.specs.declared.form.Step.TheVariants as step
-use Rattle.schema_form.specs.declared.form.Kind.{Kind}
 use Rattle.schema_form.specs.declared.form.Kind.TheVariants as kind
 use Rattle.schema_form.specs.declared.words.Form.TheVariants as form
 use Rattle.schema_form.specs.declared.words.Leaf.TheVariants as leaf

@@ -13,3 +13,8 @@ pub mod Modelling
 pub mod Gathering
 pub mod FileParts
 pub mod Wholeness
+pub mod Leading
+pub mod Spelled
+pub mod ReadTypes
+pub mod ReadEntries
+pub mod FileRead

@@ -1,10 +1,10 @@
 -- Links are followed twice as far each time, until what still leads on leads in a circle.
-use Rattle.std.proofs.Common.{◌≡◌, ℕ, zero, suc, ◌+◌, ◌*◌, ◌^◌, ◌<◌, List, [], ◌∷◌, length, map, get_or, Option, Some, None, slice_get, option_map, unwrap_or, All, refl, sym, ◌∙◌, ap, subst, arith, add-one, add_assoc}
+use Rattle.std.proofs.Common.{◌≡◌, ℕ, zero, suc, ◌+◌, ◌*◌, ◌^◌, ◌<◌, List, length, map, get_or, Option, Some, None, slice_get, option_map, unwrap_or, All, refl, sym, ◌∙◌, ap, subst, arith, add-one}
 use Rattle.std.proofs.Math.Nat.{pow-suc}
 use Rattle.std.proofs.lemmas.List.{length-map}
 use Rattle.std.proofs.lemmas.List.Elements.{All-from_get_or}
 use Rattle.std.proofs.lemmas.Option.{slice_get-get_or, slice_get-map}
-use Rattle.snap_core.specs.Value.{Value, null, boolean, integer, text, list, dict, AreKeyed, value_at, Fields}
+use Rattle.snap_core.specs.Value.{Value, null, boolean, integer, text, list, dict, value_at, Fields}
 use Rattle.snap_core.specs.declared.snap.Field.{Field}
 use Rattle.snap_core.specs.View.{view, fields_view}
 use Rattle.schema_form.specs.declared.form.EntryNo.{EntryNo}
@@ -15,9 +15,9 @@ use Rattle.schema_form.specs.declared.bases.Base.{Base}
 use Rattle.schema_form.specs.declared.bases.Link.{Link}
 use Rattle.schema_form.specs.declared.bases.Link.TheVariants.{Known, SameAs}
 use Rattle.schema_form.specs.Words.{plain_of}
-use Rattle.schema_form.specs.Names.{plain_base, plain_or, entry_of, word_base, base_within, base_of, most_names, word_of}
+use Rattle.schema_form.specs.Names.{plain_or, entry_of, word_base, base_within, base_of, most_names, word_of}
 use Rattle.schema_form.specs.Bases.{first_link, first_links, followed, doubled, LeadsIn, ended, value_of, link_base, IsLink, AreLinks, AreBases, each_known, word_link, known_base, option_join}
-use Rattle.schema_form.proofs.Naming.{IsEntryAt, entry_from-value, value_at-none}
+use Rattle.schema_form.proofs.Naming.{entry_from-value, value_at-none}
 
 base_within-none : (ms : Fields) (n : ℕ) → base_within ms n None ≡ None
 base_within-none ms zero = refl

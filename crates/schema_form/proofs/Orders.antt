@@ -1,8 +1,7 @@
 -- What stands in a record whose keys are in order.
-use Rattle.std.proofs.Common.{◌≡◌, ℕ, zero, suc, ◌+◌, ◌<◌, List, [], ◌∷◌, length, get_or, drop, true, false, Option, Some, None, codes, if◌then◌else◌, sym, ◌∙◌, ap, subst, arith, drop-cons, add-one}
+use Rattle.std.proofs.Common.{◌≡◌, ℕ, zero, suc, ◌+◌, ◌<◌, List, [], ◌∷◌, length, get_or, drop, true, false, Some, None, codes, if◌then◌else◌, sym, ◌∙◌, ap, subst, arith, drop-cons, add-one}
 use Rattle.std.specs.Str.{bytes_eq}
 use Rattle.snap_core.specs.Value.{Value, null, boolean, integer, text, list, dict, no_members, member, IsOrdered, AreKeyed, AreOrderedMembers, Fields}
-use Rattle.snap_core.specs.declared.snap.Snap.{Snap}
 use Rattle.snap_core.specs.declared.snap.Field.{Field}
 use Rattle.snap_core.specs.View.{view, fields_view}
 use Rattle.snap_core.proofs.Keys.{AreKeyed-ordered}

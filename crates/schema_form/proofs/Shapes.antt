@@ -1,13 +1,12 @@
 -- Lists and records that have the length that a form wants, and those that haven't.
-use Rattle.std.proofs.Common.{◌≡◌, ◌≤◌, ℕ, ◌==◌, ◌<◌, ◌++◌, get_or, Bool, true, false, is_some, Option, Some, None, if◌then◌else◌, sym, ◌∙◌, ap, List, [], ◌∷◌, length, refl, subst, arith, codes}
+use Rattle.std.proofs.Common.{◌≡◌, ◌≤◌, ℕ, ◌==◌, ◌<◌, ◌++◌, get_or, Bool, false, is_some, Some, None, if◌then◌else◌, sym, List, [], ◌∷◌, length, refl, subst, arith, codes}
 use Rattle.std.specs.Str.{bytes_eq}
-use Rattle.snap_core.specs.Value.{Value, null, boolean, integer, text, list, dict, no_parts, part, Fields}
+use Rattle.snap_core.specs.Value.{Value, list, dict, Fields}
 use Rattle.snap_core.specs.declared.snap.Snap.{Snap}
 use Rattle.snap_core.specs.declared.snap.Field.{Field}
 use Rattle.snap_core.specs.View.{view, items_view, fields_view}
 use Rattle.snap_core.proofs.Views.{entry-fields}
 use Rattle.pointer_core.specs.declared.schema_rule.SchemaRule.TheVariants.{Shape}
-use Rattle.schema_form.specs.declared.fault.Fault.{Fault}
 use Rattle.schema_form.specs.declared.words.Form.TheVariants as form
 use Rattle.schema_form.specs.Faults.{here, under, texts_faults, enumeration_faults, number_faults, base_faults, base_in, conditions_faults, refinement_faults, numbered, parts_faults, type_faults, inside_faults, field_faults, is_expression, model_in}
 use Rattle.schema_form.specs.Words.{form_of}

@@ -1,5 +1,5 @@
 -- Steps along the texts of an enumeration.
-use Rattle.std.proofs.Common.{◌≡◌, ℕ, ◌+◌, ◌<◌, List, ◌∷◌, ◌++◌, length, get_or, drop, Bool, true, false, ◌||◌, not, cond, Option, decimal, refl, sym, ◌∙◌, ap, subst, drop-cons, add-one, Bor}
+use Rattle.std.proofs.Common.{◌≡◌, ℕ, ◌+◌, ◌<◌, List, ◌∷◌, ◌++◌, length, get_or, drop, Bool, true, false, ◌||◌, not, cond, decimal, refl, sym, ◌∙◌, ap, drop-cons, add-one, Bor}
 use Rattle.std.specs.BTreeSet.{BTreeSet, contains, Updates}
 use Rattle.std.specs.Cmp.Lexicographic.{slice_cmp}
 use Rattle.std.specs.Ordering.{nat_cmp, is_eq, ordering_reverse}

@@ -1,5 +1,5 @@
 -- What is laid for a type expression without faults names what is there.
-use Rattle.std.proofs.Common.{◌≡◌, ◌≤◌, ℕ, ◌+◌, ◌<◌, List, [], ◌∷◌, ◌++◌, length, decimal, false, is_some, Option, Some, None, IsTrue, All, codes, option_map, if◌then◌else◌, refl, sym, ◌∙◌, ap, subst, arith, length-append}
+use Rattle.std.proofs.Common.{◌≡◌, ◌≤◌, ℕ, ◌+◌, ◌<◌, List, [], ◌∷◌, ◌++◌, length, decimal, false, is_some, Option, Some, None, All, codes, option_map, if◌then◌else◌, refl, sym, ◌∙◌, ap, subst, arith, length-append}
 use Rattle.std.proofs.lemmas.List.{append-nil}
 use Rattle.std.proofs.lemmas.List.Elements.{All-nil, All-cons}
 use Rattle.snap_core.specs.Value.{Value, null, boolean, integer, text, list, dict, no_parts, part, no_members, member, IsPlain, IsOrdered, AreOrdered, Items, Fields}
@@ -7,11 +7,9 @@ use Rattle.snap_core.specs.View.{view}
 use Rattle.snap_core.specs.Unview.{snap_of}
 use Rattle.snap_core.specs.declared.number.TypeNo.{TypeNo}
 use Rattle.pointer_core.specs.declared.schema_rule.SchemaRule.TheVariants.{Shape, Name}
-use Rattle.schema_form.specs.declared.fault.Fault.{Fault}
 use Rattle.schema_form.specs.declared.form.SchemaForm.{SchemaForm}
 use Rattle.schema_form.specs.declared.form.EntryNo.{EntryNo}
 use Rattle.schema_form.specs.declared.form.Expression.{Expression}
-use Rattle.schema_form.specs.declared.form.Holder.{Holder}
 use Rattle.schema_form.specs.declared.form.Plain.{Plain}
 use Rattle.schema_form.specs.declared.form.Place.{Place}
 use Rattle.schema_form.specs.declared.form.Place.TheVariants as place
@@ -27,10 +25,10 @@ use Rattle.schema_form.specs.declared.words.Leaf.TheVariants as leaf
 use Rattle.schema_form.specs.Words.{plain_of, form_of}
 use Rattle.schema_form.specs.Names.{has_key, entry_of, plain_or, word_of, word_in, base_of}
 use Rattle.schema_form.specs.Faults.{here, unless, under, number_faults, word_faults, base_faults, base_in, conditions_faults, refinement_faults, literal_faults, name_faults, numbered, leaf_faults, form_faults, keyed_faults, type_faults, item_faults, parts_faults}
-use Rattle.schema_form.specs.Layout.{Layout, type_no, said, word_kind, entry_named, leaf_kind, form_kind, conditions_of, members_laid, member_numbers, form_laid, keyed_laid, type_laid, items_laid, parts_laid_of}
+use Rattle.schema_form.specs.Layout.{Layout, type_no, said, word_kind, entry_named, leaf_kind, conditions_of, members_laid, member_numbers, form_laid, keyed_laid, type_laid, items_laid, parts_laid_of}
 use Rattle.schema_form.specs.Pointers.{IsPlaceAmong}
 use Rattle.schema_form.specs.Form.{IsKindIn}
-use Rattle.schema_form.proofs.NoFaults.{append_none, under_none, unless_none, here_some}
+use Rattle.schema_form.proofs.NoFaults.{append_none, under_none, here_some}
 use Rattle.schema_form.proofs.PlainValues.{IsPlain-snap_of}
 use Rattle.schema_form.proofs.Naming.{is_some-entry_from}
 
@@ -44,7 +42,7 @@ AllFrom-append P n m [] ys e h k = let Q : ℕ → Type 0 = λ j. AllFrom P j ys
 AllFrom-append P n m (x ∷ xs) ys e h k = (h.0, AllFrom-append P (n + 1) m xs ys (omega (arith, e)) h.1 k)
 
 -- a known word stands for something
-word-known : (types : Fields) (s : List ℕ) (plain : Option Plain) (entry : Option EntryNo) → plain_of s ≡ plain → entry_of types s ≡ entry → word_faults types s ≡ [] → (w : Word) × (plain_or plain entry ≡ Some w)
+pub word-known : (types : Fields) (s : List ℕ) (plain : Option Plain) (entry : Option EntryNo) → plain_of s ≡ plain → entry_of types s ≡ entry → word_faults types s ≡ [] → (w : Word) × (plain_or plain entry ≡ Some w)
 word-known types s (Some p) entry is at none = (word.Plain p, refl)
 word-known types s None (Some e) is at none = (word.Named e, refl)
 word-known types s None None is at none =
@@ -54,7 +52,7 @@ word-known types s None None is at none =
     absurd (here_some Name (sym faults ∙ none))
 
 -- the entry that a text without a fault names
-entry-known : (types : Fields) (v : Value) → name_faults types v ≡ [] → (e : EntryNo) × (entry_named types v ≡ Some e)
+pub entry-known : (types : Fields) (v : Value) → name_faults types v ≡ [] → (e : EntryNo) × (entry_named types v ≡ Some e)
 entry-known types (text s) none = go (entry_of types s) refl where
   go : (entry : Option EntryNo) → entry_of types s ≡ entry → (e : EntryNo) × (entry_of types s ≡ Some e)
   go (Some e) at = (e, at)

@@ -1,5 +1,5 @@
 -- The form of a file without a fault is whole.
-use Rattle.std.proofs.Common.{◌≡◌, ℕ, zero, suc, ◌+◌, ◌<◌, List, [], ◌∷◌, ◌++◌, length, map, Bool, true, false, Option, Some, None, All, codes, slice_get, option_map, if◌then◌else◌, refl, sym, ◌∙◌, ap, subst, arith}
+use Rattle.std.proofs.Common.{◌≡◌, ℕ, zero, suc, ◌+◌, ◌<◌, List, [], ◌∷◌, length, map, true, false, Option, Some, None, All, codes, slice_get, option_map, if◌then◌else◌, refl, sym, ◌∙◌, ap, subst, arith}
 use Rattle.std.specs.Prelude.{◌&&◌}
 use Rattle.std.specs.Str.{bytes_eq}
 use Rattle.std.proofs.lemmas.List.{length-map}
@@ -13,20 +13,19 @@ use Rattle.schema_form.specs.declared.fault.Fault.{Fault}
 use Rattle.schema_form.specs.declared.form.SchemaForm.{SchemaForm}
 use Rattle.schema_form.specs.declared.form.EntryNo.{EntryNo}
 use Rattle.schema_form.specs.declared.form.Entry.{Entry}
-use Rattle.schema_form.specs.declared.form.ModelForm.{ModelForm}
 use Rattle.schema_form.specs.declared.form.Expression.{Expression}
 use Rattle.schema_form.specs.declared.form.Place.{Place}
 use Rattle.schema_form.specs.declared.entries.Gathered.{Gathered}
 use Rattle.schema_form.specs.Names.{has_key, entry_of}
-use Rattle.schema_form.specs.Faults.{here, unless, under, member_faults, entry_faults, types_faults, part_faults, file_faults, entries, entries_in, types_of}
-use Rattle.schema_form.specs.Layout.{entry_named, nothing, gathered}
-use Rattle.schema_form.specs.Pointers.{IsPlaceAmong, places_of}
-use Rattle.schema_form.specs.Form.{root_in, root_of, IsForm, IsWhole, IsModelIn}
+use Rattle.schema_form.specs.Faults.{unless, under, member_faults, entry_faults, types_faults, part_faults, file_faults, entries, entries_in, types_of}
+use Rattle.schema_form.specs.Layout.{nothing}
+use Rattle.schema_form.specs.Pointers.{IsPlaceAmong}
+use Rattle.schema_form.specs.Form.{root_in, IsForm, IsWhole, IsModelIn}
 use Rattle.schema_form.proofs.NoFaults.{append_none, under_none, here_some}
 use Rattle.schema_form.proofs.Whole.{AllFrom, IsGood}
 use Rattle.schema_form.proofs.Gathering.{entry-bound, names-gathered, IsSoFar, gathered-sound}
 
-AllFrom-get : (P : ℕ → Expression → Type 0) (n k : ℕ) (xs : List Expression) (x : Expression) → AllFrom P n xs → slice_get xs k ≡ Some x → P (n + k) x
+pub AllFrom-get : (P : ℕ → Expression → Type 0) (n k : ℕ) (xs : List Expression) (x : Expression) → AllFrom P n xs → slice_get xs k ≡ Some x → P (n + k) x
 AllFrom-get P n k [] x all is = absurd cc
 AllFrom-get P n zero (y ∷ xs) x all is =
     let same : y ≡ x = cc is in
@@ -72,7 +71,7 @@ by_types file ms (Some v) ordered none is =
     types-sound v (IsOrdered-value_at (codes "types") ms v ordered is) (member-none (part_faults (types_of file)) (codes "types") ms v none is)
 
 -- the types of a file without a fault have none, and stand in order
-file-types : (file : Value) → IsOrdered file → file_faults file ≡ [] → (member_faults (entry_faults (types_of file)) (types_of file) ≡ []) × AreOrderedMembers (types_of file)
+pub file-types : (file : Value) → IsOrdered file → file_faults file ≡ [] → (member_faults (entry_faults (types_of file)) (types_of file) ≡ []) × AreOrderedMembers (types_of file)
 file-types (dict a ms) ordered none =
     by_types (dict a ms) ms (value_at (codes "types") ms) ordered
     (append_none (unless (has_key (codes "host") ms && has_key (codes "root") ms && has_key (codes "types") ms) Shape) (member_faults (part_faults (types_of (dict a ms))) ms) none).1 refl

@@ -4,15 +4,12 @@ use Rattle.std.specs.Option.{option_map}
 use Rattle.snap_core.specs.Value.{Value, text, Fields}
 use Rattle.snap_core.specs.declared.snap.Field.{Field}
 use Rattle.snap_core.specs.View.{view, fields_view}
-use Rattle.schema_form.specs.declared.form.EntryNo.{EntryNo}
-use Rattle.schema_form.specs.declared.form.Plain.{Plain}
 use Rattle.schema_form.specs.declared.form.Word.{Word}
 use Rattle.schema_form.specs.declared.form.Word.TheVariants as word
 use Rattle.schema_form.specs.declared.bases.Base.{Base}
 use Rattle.schema_form.specs.declared.bases.Link.{Link}
 use Rattle.schema_form.specs.declared.bases.Link.TheVariants.{Known, SameAs}
-use Rattle.schema_form.specs.Words.{plain_of}
-use Rattle.schema_form.specs.Names.{plain_base, entry_of, word_of, base_within, most_names}
+use Rattle.schema_form.specs.Names.{plain_base, word_of, base_within, most_names}
 
 -- the link of an entry: a name leads to the entry of that name
 abbrev pub word_link : Option Word → Link

@@ -7,8 +7,8 @@ use Rattle.snap_core.specs.Name.{is_name}
 use Rattle.snap_core.specs.Value.{Value, integer, text, list, dict, no_parts, part, no_members, member, value_at, is_whole, Items, Fields}
 use Rattle.pointer_core.specs.declared.schema_rule.SchemaRule.{SchemaRule}
 use Rattle.pointer_core.specs.declared.schema_rule.SchemaRule.TheVariants.{Shape, Name, Twice, History}
-use Rattle.type_core.specs.declared.shape.Condition.{Condition}
-use Rattle.type_core.specs.declared.shape.Condition.TheVariants.{Min, Max, MinLength, MaxLength, StartsWith}
+use Rattle.type_table.specs.declared.shape.Condition.{Condition}
+use Rattle.type_table.specs.declared.shape.Condition.TheVariants.{Min, Max, MinLength, MaxLength, StartsWith}
 use Rattle.schema_form.specs.declared.fault.Fault.{Fault}
 use Rattle.schema_form.specs.declared.fault.FormError.{FormError}
 use Rattle.schema_form.specs.declared.fault.FormError.TheVariants.{Wrong}

@@ -1,9 +1,9 @@
 -- Which form a schema file has, and what holds of each form.
-use Rattle.std.specs.Prelude.{◌≡◌, ℕ, ◌<◌, ℤ, pos, List, [], ◌∷◌, length, map, codes, slice_get, Option, Some, None, All}
-use Rattle.snap_core.specs.Value.{Value, integer, text, value_at, IsPlain, AreAscending}
+use Rattle.std.specs.Prelude.{◌≡◌, ℕ, ◌<◌, ℤ, pos, length, map, codes, slice_get, Option, Some, None, All}
+use Rattle.snap_core.specs.Value.{Value, integer, value_at, IsPlain, AreAscending}
 use Rattle.snap_core.specs.View.{view}
 use Rattle.snap_core.specs.declared.number.TypeNo.{TypeNo}
-use Rattle.type_core.specs.Table.{AreNamed, AreTyped}
+use Rattle.type_table.specs.Table.{AreNamed, AreTyped}
 use Rattle.schema_form.specs.declared.form.SchemaForm.{SchemaForm}
 use Rattle.schema_form.specs.declared.form.Entry.{Entry}
 use Rattle.schema_form.specs.declared.form.EntryNo.{EntryNo}
@@ -12,7 +12,7 @@ use Rattle.schema_form.specs.declared.form.Expression.{Expression}
 use Rattle.schema_form.specs.declared.form.Word.TheVariants as word
 use Rattle.schema_form.specs.declared.form.Kind.{Kind}
 use Rattle.schema_form.specs.declared.form.Kind.TheVariants as kind
-use Rattle.schema_form.specs.Faults.{file_faults, entries, types_of}
+use Rattle.schema_form.specs.Faults.{entries, types_of}
 use Rattle.schema_form.specs.Pointers.{places_of, ArePlaces}
 use Rattle.schema_form.specs.Layout.{gathered, entry_named}
 

@@ -1,18 +1,17 @@
 -- Which type expressions a schema file has: where each stands and what it says, in document order.
-use Rattle.std.specs.Prelude.{ℕ, ◌+◌, List, [], ◌∷◌, ◌++◌, length, codes, Option, Some, None}
-use Rattle.std.specs.Option.{option_map, option_and_then}
+use Rattle.std.specs.Prelude.{ℕ, ◌+◌, List, [], ◌∷◌, ◌++◌, length, Option, Some, None}
+use Rattle.std.specs.Option.{option_map}
 use Rattle.snap_core.specs.Value.{Value, text, list, dict, no_parts, part, no_members, member, Items, Fields}
 use Rattle.snap_core.specs.Unview.{snap_of}
 use Rattle.snap_core.specs.declared.number.TypeNo.{TypeNo}
 use Rattle.snap_core.specs.declared.number.ModelNo.{ModelNo}
-use Rattle.type_core.specs.declared.shape.Condition.{Condition}
-use Rattle.type_core.specs.declared.shape.Property.{Property}
+use Rattle.type_table.specs.declared.shape.Condition.{Condition}
+use Rattle.type_table.specs.declared.shape.Property.{Property}
 use Rattle.schema_form.specs.declared.form.Expression.{Expression}
 use Rattle.schema_form.specs.declared.form.EntryNo.{EntryNo}
 use Rattle.schema_form.specs.declared.entries.Gathered.{Gathered}
 use Rattle.schema_form.specs.declared.form.Place.{Place}
 use Rattle.schema_form.specs.declared.form.Place.TheVariants as place
-use Rattle.schema_form.specs.declared.form.Step.{Step}
 use Rattle.schema_form.specs.declared.form.Step.TheVariants as step
 use Rattle.schema_form.specs.declared.form.Kind.{Kind}
 use Rattle.schema_form.specs.declared.form.Kind.TheVariants as kind

@@ -8,3 +8,5 @@ pub mod Form
 pub mod Outcome
 pub mod Texts
 pub mod Parts
+pub mod Reading
+pub mod Laws

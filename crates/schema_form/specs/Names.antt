@@ -1,6 +1,6 @@
 -- What the names of a schema file lead to. `types` is the object under that key: the entries by their names.
-use Rattle.std.specs.Prelude.{ℕ, zero, suc, ◌+◌, ◌^◌, List, codes, Bool, is_some, Option, Some, None, if◌then◌else◌}
-use Rattle.std.specs.Option.{option_map, option_and_then}
+use Rattle.std.specs.Prelude.{ℕ, zero, suc, ◌+◌, ◌^◌, List, Bool, is_some, Option, Some, None, if◌then◌else◌}
+use Rattle.std.specs.Option.{option_map}
 use Rattle.std.specs.Str.{bytes_eq}
 use Rattle.snap_core.specs.Value.{Value, text, no_members, member, value_at, Fields}
 use Rattle.schema_form.specs.declared.form.EntryNo.{EntryNo}

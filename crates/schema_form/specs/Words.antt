@@ -3,7 +3,6 @@ use Rattle.std.specs.Prelude.{ℕ, List, codes, Option, Some, None, if◌then◌
 use Rattle.std.specs.Str.{bytes_eq}
 use Rattle.schema_form.specs.declared.form.Plain.{Plain}
 use Rattle.schema_form.specs.declared.form.Plain.TheVariants as plain
-use Rattle.schema_form.specs.declared.form.Holder.{Holder}
 use Rattle.schema_form.specs.declared.form.Holder.TheVariants as holder
 use Rattle.schema_form.specs.declared.words.Leaf.TheVariants as leaf
 use Rattle.schema_form.specs.declared.words.Form.{Form}

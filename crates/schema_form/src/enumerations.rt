@@ -14,7 +14,7 @@ use pointer_core::SchemaRule;
 use snap_core::{Snap, Txt};
 use std::alloc::{AllocError, Global};
 use std::collections::BTreeSet;
-use type_core::Texts;
+use type_table::Texts;
 
 /// Reads the texts of an enumeration.
 pub fn read_texts(alloc: Global, value: &Snap) -> Result<Texts, FormError>

@@ -18,7 +18,7 @@ use crate::words::{Form, form_of};
 use list_core::Parts;
 use pointer_core::SchemaRule;
 use snap_core::{Field, Snap, TypeNo};
-use type_core::Members;
+use type_table::Members;
 
 /// Adds a type expression and those in it, or names its first fault. `types` are the entries that
 /// names lead to, and `bases` what each of them is as a base of a refinement.

@@ -1,7 +1,7 @@
 //! What a schema file without a fault in form says.
 use list_core::Parts;
 use snap_core::{ModelNo, Name, Snap, TypeNo};
-use type_core::{Conditions, Members, Properties, Texts};
+use type_table::{Conditions, Members, Properties, Texts};
 
 /// Which entry of the types, counted from 0 in the order of the file.
 #[derive(Clone, Copy, Debug, PartialEq, Eq)]

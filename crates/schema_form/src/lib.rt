@@ -13,6 +13,10 @@
 //! `read_form` promises that the form is that of the file and that the file has no fault in form, names,
 //! repetitions and the range of the history, or that the fault is the first of them in document order. In a form all
 //! numbers name what is there, so nobody has to look at the file again.
+//!
+//! Two laws tie a form to its file: each type expression has one pointer, which leads in the file to the value
+//! that it is read from (`pointers_lead`), and the entries are the file's types under their names, in order
+//! (`entries_are_types`).
 #![tactic(auto)]
 
 mod bases;
@@ -23,6 +27,7 @@ mod fault;
 mod file;
 mod form;
 mod keys;
+mod laws;
 mod leaves;
 mod models;
 mod names;
@@ -38,4 +43,5 @@ pub use form::{
     Entry, EntryNo, Expression, Expressions, Holder, Kind, ModelForm, Place, Plain, SchemaForm,
     Step, Word,
 };
+pub use laws::{entries_are_types, pointers_lead};
 pub use pointer::{Laid, pointer_to, taken_apart};

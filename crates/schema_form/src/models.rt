@@ -19,7 +19,7 @@ use crate::walk::{under, wrong};
 use list_core::Parts;
 use pointer_core::SchemaRule;
 use snap_core::{Field, ModelNo, Snap, TypeNo, find};
-use type_core::{Properties, Property};
+use type_table::{Properties, Property};
 
 /// What stands under `model` in an entry of the types that is a model: an object with this one key.
 pub fn model_in(value: &Snap) -> Option<&Snap>

@@ -1,6 +1,6 @@
 //! Where the type expressions of a form stand in the file.
 ghost use Rattle.std.specs.Prelude.{◌≡◌, ◌<◌, ◌++◌, length, map, slice_get, Some, IfOk};
-ghost use Rattle.type_core.specs.declared.shape.Property.{Property};
+ghost use Rattle.type_table.specs.declared.shape.Property.{Property};
 ghost use Rattle.schema_form.specs.Pointers as pointers;
 
 use crate::form::{Entry, EntryNo, Expressions, Holder, Kind, ModelForm, Place, Step};

@@ -13,7 +13,7 @@ use list_core::Parts;
 use pointer_core::SchemaRule;
 use snap_core::{Field, Snap, Txt, is_whole};
 use std::alloc::Global;
-use type_core::{Condition, Conditions};
+use type_table::{Condition, Conditions};
 
 /// Reads the conditions of a refinement, which are of its base's kind.
 pub fn read_conditions(alloc: Global, base: Base, value: &Snap) -> Result<Conditions, FormError>

@@ -6,12 +6,12 @@ use Rattle.std.proofs.lemmas.List.{length-map}
 use Rattle.snap_core.specs.declared.number.TypeNo.{TypeNo}
 use Rattle.snap_core.specs.declared.number.ModelNo.{ModelNo}
 use Rattle.pointer_core.specs.declared.schema_rule.SchemaRule.{SchemaRule}
-use Rattle.type_core.specs.declared.shape.Shape.{Shape}
-use Rattle.type_core.specs.declared.shape.Shape.TheVariants as shape
-use Rattle.type_core.specs.Table.{Table, shape_at, leads_of}
-use Rattle.type_core.specs.Names.{LeadsTo}
-use Rattle.type_core.specs.Identifiers.{is_misplaced, misleads}
-use Rattle.type_core.specs.Faults.{HasFault, name, identifier, target, union, «default»}
+use Rattle.type_table.specs.declared.shape.Shape.{Shape}
+use Rattle.type_table.specs.declared.shape.Shape.TheVariants as shape
+use Rattle.type_table.specs.Table.{Table, shape_at, leads_of}
+use Rattle.type_table.specs.Names.{LeadsTo}
+use Rattle.type_table.specs.Identifiers.{is_misplaced, misleads}
+use Rattle.type_draft.specs.Faults.{HasFault, name, identifier, target, union, «default»}
 use Rattle.schema_form.specs.declared.form.SchemaForm.{SchemaForm}
 use Rattle.schema_form.specs.declared.form.Expression.{Expression}
 use Rattle.schema_form.specs.declared.form.ModelForm.{ModelForm}

@@ -1,8 +1,8 @@
 -- Expressions stay shapes of a plan as it grows.
 use Rattle.std.proofs.Common.{List, All}
 use Rattle.std.proofs.lemmas.List.Elements.{All-weaker}
-use Rattle.type_core.specs.Table.{Plan}
-use Rattle.type_core.proofs.Plans.{IsNoSmaller, IsShapeOf-more}
+use Rattle.type_table.specs.Table.{Plan}
+use Rattle.type_draft.proofs.Plans.{IsNoSmaller, IsShapeOf-more}
 use Rattle.schema_form.specs.declared.form.Entry.{Entry}
 use Rattle.schema_form.specs.declared.form.Kind.{Kind}
 use Rattle.schema_read.specs.Types.{kind_shape}

@@ -6,9 +6,9 @@ use Rattle.snap_core.specs.Value.{Value}
 use Rattle.pointer_core.specs.Path.{Path}
 use Rattle.pointer_core.specs.declared.schema_rule.SchemaRule.{SchemaRule}
 use Rattle.snap_json.specs.Loose.{loosely}
-use Rattle.type_core.specs.Table.{Catalog}
+use Rattle.type_table.specs.Table.{Catalog}
 use Rattle.type_core.specs.Sound.{TypesAreOne}
-use Rattle.type_core.specs.Faults.{HasFault}
+use Rattle.type_draft.specs.Faults.{HasFault}
 use Rattle.schema_form.specs.declared.form.SchemaForm.{SchemaForm}
 use Rattle.schema_form.specs.declared.fault.Fault.{Fault}
 use Rattle.schema_form.specs.Faults.{file_faults, first}

@@ -9,9 +9,9 @@ use Rattle.snap_core.specs.declared.number.ModelNo.{ModelNo}
 use Rattle.pointer_core.specs.Path.{Path}
 use Rattle.pointer_core.specs.declared.schema_rule.SchemaRule.{SchemaRule}
 use Rattle.pointer_core.specs.declared.schema_rule.SchemaRule.TheVariants as rule
-use Rattle.type_core.specs.declared.shape.Property.{Property}
-use Rattle.type_core.specs.Table.{Table}
-use Rattle.type_core.specs.Faults.{HasFault, name, identifier, target, union, «default», pass_of, order_of, Precedes, IsFirstFault}
+use Rattle.type_table.specs.declared.shape.Property.{Property}
+use Rattle.type_table.specs.Table.{Table}
+use Rattle.type_draft.specs.Faults.{HasFault, name, identifier, target, union, «default», pass_of, order_of, Precedes, IsFirstFault}
 use Rattle.schema_form.specs.declared.form.SchemaForm.{SchemaForm}
 use Rattle.schema_form.specs.declared.form.Entry.{Entry}
 use Rattle.schema_form.specs.declared.form.EntryNo.{EntryNo}

@@ -5,7 +5,7 @@ use Rattle.schema_form.specs.declared.form.ModelForm.{ModelForm}
 use Rattle.schema_form.specs.declared.form.Kind.{Kind}
 use Rattle.schema_form.specs.declared.form.Kind.TheVariants.{Word, Reference, SafeReference}
 use Rattle.schema_form.specs.declared.form.Word.TheVariants.{Named}
-use Rattle.type_core.specs.Table.{Plan, AreNamed, AreTyped, IsShapeOf, plan_of}
+use Rattle.type_table.specs.Table.{Plan, AreNamed, AreTyped, IsShapeOf, plan_of}
 use Rattle.schema_read.specs.Types.{kind_shape, put_together}
 
 -- the entry that an expression names is one of so many

@@ -7,7 +7,7 @@ use Rattle.pointer_core.specs.declared.schema_rule.SchemaRule.{SchemaRule}
 use Rattle.pointer_core.specs.declared.schema_rule.SchemaRule.TheVariants.{Target}
 use Rattle.snap_json.specs.Loose.{loosely}
 use Rattle.type_core.specs.Sound.{IsSound}
-use Rattle.type_core.specs.Faults.{HasFault, IsFirstFault}
+use Rattle.type_draft.specs.Faults.{HasFault, IsFirstFault}
 use Rattle.schema_form.specs.declared.form.SchemaForm.{SchemaForm}
 use Rattle.schema_form.specs.declared.fault.Fault.{Fault}
 use Rattle.schema_form.specs.Faults.{file_faults, first}

@@ -1,6 +1,6 @@
 //! The types of a schema, put together from the entries, the type expressions and the models of a form.
 ghost use Rattle.std.specs.Prelude.{◌≡◌, [], ◌++◌, length, map, take, drop, replicate, Some, None, All, IfOk, OnOk};
-ghost use Rattle.type_core.specs.Table.{plan_of};
+ghost use Rattle.type_table.specs.Table.{plan_of};
 ghost use Rattle.schema_read.specs.Types as types;
 ghost use Rattle.schema_read.specs.Types.{own_shapes, models_from, put_together};
 ghost use Rattle.schema_read.specs.Assembly.{IsKindOf, IsFit, AreWhole};
@@ -10,7 +10,8 @@ use list_core::Parts;
 use schema_form::{Entry, Kind, ModelForm};
 use snap_core::TypeNo;
 use std::alloc::{AllocError, Global};
-use type_core::{Draft, Properties, Property};
+use type_draft::Draft;
+use type_table::{Properties, Property};
 
 /// A draft with a type for each expression and each model.
 pub fn draft_of(

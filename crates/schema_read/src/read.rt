@@ -15,7 +15,7 @@ use schema_form::{Fault, FormError, Laid, SchemaForm, pointer_to, read_form, tak
 use snap_core::Snap;
 use snap_json::read_loosely;
 use std::alloc::Global;
-use type_core::DraftError;
+use type_draft::DraftError;
 
 /// Reads a schema file, or names its first fault. A file that is no JSON in UTF-8, as `snap_json` reads
 /// it, is `Syntax`.

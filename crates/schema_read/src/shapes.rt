@@ -6,7 +6,7 @@ ghost use Rattle.schema_read.specs.Types as types;
 
 use schema_form::{Entry, EntryNo, Holder, Kind, Plain, Word};
 use snap_core::{ModelNo, TypeNo};
-use type_core::Shape;
+use type_table::Shape;
 
 /// The shape of a type expression.
 pub fn kind_shape(entries: &[Entry], kind: Kind) -> Shape

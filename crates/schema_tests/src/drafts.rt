@@ -8,7 +8,9 @@ use pointer_core::SchemaRule;
 use snap_core::{Field, Name, Snap, Txt, TypeNo};
 use std::alloc::{AllocError, Global};
 use std::test::Fail;
-use type_core::{Draft, DraftError, MakeError, Property, Shape, Types, chosen, make};
+use type_core::{MakeError, Types, chosen, make};
+use type_draft::{Draft, DraftError};
+use type_table::{Property, Shape};
 
 fn property(alloc: Global, name: &str, of: TypeNo) -> Result<Property, Fail>
     ensures { IfOk result (λ p. p ≡ record { name = name.now; of = of }) }

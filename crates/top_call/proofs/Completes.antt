@@ -14,7 +14,7 @@ use Rattle.http_front.specs.Laws.{WholeIsOnly}
 use Rattle.edge_core.specs.World.{WorldState, WorldHasFailed}
 use Rattle.edge_core.specs.Door.{Links, DoorHasFailed, BothTold}
 use Rattle.snap_json.specs.Reading.{reading}
-use Rattle.type_core.specs.Table.{Catalog}
+use Rattle.type_table.specs.Table.{Catalog}
 use Rattle.top_call.specs.declared.exit.Exit.{Exit}
 use Rattle.top_call.specs.declared.exit.Exit.TheVariants.{Done, Checked, Usage, Unread, Syntax, Refused, DoorFailed, Memory, Inside}
 use Rattle.top_call.specs.Exit.{exit_code}

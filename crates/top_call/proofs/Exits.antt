@@ -5,7 +5,7 @@ use Rattle.std.proofs.lemmas.Option.{same_Some}
 use Rattle.edge_core.specs.Faults.{HasRisen}
 use Rattle.std.specs.Prelude.{IsTrue}
 use Rattle.edge_core.specs.Door.{Link, Links, DoorState, AsksToAttach, KeepsAttachment, BothTold, Writes, Accepts, FindsNone, after_shut}
-use Rattle.type_core.specs.Table.{Catalog}
+use Rattle.type_table.specs.Table.{Catalog}
 use Rattle.top_call.specs.declared.answer.End.{End}
 use Rattle.top_call.specs.declared.answer.End.TheVariants as end
 use Rattle.top_call.specs.declared.exit.Exit.{Exit}

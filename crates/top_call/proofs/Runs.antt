@@ -4,7 +4,7 @@ use Rattle.std.specs.Prelude.{IsSomeAnd, IsErrOf}
 use Rattle.edge_core.specs.World.{WorldState, AsksFor, file_of}
 use Rattle.edge_core.specs.Door.{Links, DoorState, BothTold}
 use Rattle.type_core.specs.Sound.{IsSound}
-use Rattle.type_core.specs.Table.{Catalog}
+use Rattle.type_table.specs.Table.{Catalog}
 use Rattle.expr_core.specs.Schema.{Schema}
 use Rattle.top_call.specs.declared.exit.Exit.{Exit}
 use Rattle.top_call.specs.declared.exit.Exit.TheVariants.{Done, Checked, Usage, Unread, Syntax, Refused, DoorFailed, Memory, Inside}

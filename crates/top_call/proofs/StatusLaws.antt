@@ -4,7 +4,7 @@ use Rattle.std.specs.Prelude.{IsSomeAnd, IsSome}
 use Rattle.edge_core.specs.World.{WorldState, WorldHasFailed, Gets}
 use Rattle.edge_core.specs.Door.{Links, DoorHasFailed}
 use Rattle.snap_json.specs.Reading.{reading}
-use Rattle.type_core.specs.Table.{Catalog}
+use Rattle.type_table.specs.Table.{Catalog}
 use Rattle.top_call.specs.declared.exit.Exit.{Exit}
 use Rattle.top_call.specs.declared.exit.Exit.TheVariants.{Done, Checked, Usage, Unread, Syntax, Refused, DoorFailed, Memory, Inside}
 use Rattle.top_call.specs.Words.{Command, check, run}

@@ -9,8 +9,8 @@ use Rattle.pointer_core.specs.Path.{Path, printed}
 use Rattle.pointer_core.specs.Rule.{rule_name, rule_status}
 use Rattle.pointer_core.specs.declared.refusal.Rule.{Rule}
 use Rattle.pointer_core.specs.declared.refusal.Rule.TheVariants.{Head, Syntax, Whole, Identifier}
-use Rattle.type_core.specs.declared.shape.ModelType.{ModelType}
-use Rattle.type_core.specs.Table.{Catalog}
+use Rattle.type_table.specs.declared.shape.ModelType.{ModelType}
+use Rattle.type_table.specs.Table.{Catalog}
 use Rattle.type_core.specs.Making.{Outcome, making}
 use Rattle.type_core.specs.Doubled.{identifiers_of, doubled_of}
 use Rattle.http_front.specs.Arrival.{Arrival, whole, partial, refused, Arrives}

@@ -7,7 +7,7 @@ use Rattle.pointer_core.specs.Path.{Path, printed}
 use Rattle.pointer_core.specs.Rule.{schema_rule_name}
 use Rattle.pointer_core.specs.declared.schema_rule.SchemaRule.{SchemaRule}
 use Rattle.snap_json.specs.Loose.{loosely}
-use Rattle.type_core.specs.Table.{Catalog}
+use Rattle.type_table.specs.Table.{Catalog}
 use Rattle.type_core.specs.Sound.{IsSound}
 use Rattle.expr_core.specs.Schema.{Schema}
 use Rattle.schema_read.specs.Schema.{Spells, HasFirst}

@@ -1,7 +1,7 @@
 -- What serving one link leaves of a door's links.
 use Rattle.std.specs.Prelude.{◌≡◌, ℕ, ◌<◌, ◌≤◌, ◌⊎◌, List, [], ◌∷◌, ◌++◌, length, Some, None}
 use Rattle.edge_core.specs.Door.{Links, DoorState, Writes, asked_also}
-use Rattle.type_core.specs.Table.{Catalog}
+use Rattle.type_table.specs.Table.{Catalog}
 use Rattle.top_call.specs.Link.{AnswersBytes, IsDue, memory_reply}
 
 -- the most bytes that are read of a link: one more than the longest request has

@@ -1,7 +1,7 @@
 -- Words of private clauses: what an exit says of the open link, of the links of a door that was attached, and of the door.
 use Rattle.std.specs.Prelude.{◌≡◌, ◌⊎◌, List, ℕ, IsTrue}
 use Rattle.edge_core.specs.Door.{Links, DoorState, DoorHasFailed, BothTold, Writes, after_shut}
-use Rattle.type_core.specs.Table.{Catalog}
+use Rattle.type_table.specs.Table.{Catalog}
 use Rattle.top_call.specs.Serving.{TakesPart, Exchanges, AnswersBy, BreaksBy, RunsOutBy, RunsOut, EndsWith, EndsBroken, AsksForStreams}
 use Rattle.top_call.specs.declared.answer.End.{End}
 use Rattle.top_call.specs.declared.answer.End.TheVariants.{Between}

@@ -1,7 +1,7 @@
 //! What each exit status tells of a run: laws that follow from how a run ends.
 ghost use Rattle.std.specs.Prelude.{◌≡◌, ◌⊎◌, ℕ, List, None, IsTrue, codes};
 ghost use Rattle.snap_json.specs.Reading.{reading};
-ghost use Rattle.type_core.specs.Table.{Catalog};
+ghost use Rattle.type_table.specs.Table.{Catalog};
 ghost use Rattle.edge_core.specs.World.{WorldHasFailed, Gets};
 ghost use Rattle.edge_core.specs.Door.{DoorHasFailed};
 ghost use Rattle.top_call.specs.declared.exit.Exit as declared;

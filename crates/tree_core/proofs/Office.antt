@@ -6,11 +6,11 @@ use Rattle.snap_core.specs.Unview.{snap_of}
 use Rattle.snap_core.specs.declared.snap.Snap.{Snap}
 use Rattle.snap_core.specs.declared.number.TypeNo.{TypeNo}
 use Rattle.snap_core.specs.declared.number.ModelNo.{ModelNo}
-use Rattle.type_core.specs.declared.shape.Shape.{Shape}
-use Rattle.type_core.specs.declared.shape.Shape.TheVariants as shape
-use Rattle.type_core.specs.declared.shape.Property.{Property}
-use Rattle.type_core.specs.declared.shape.ModelType.{ModelType}
-use Rattle.type_core.specs.Table.{Catalog}
+use Rattle.type_table.specs.declared.shape.Shape.{Shape}
+use Rattle.type_table.specs.declared.shape.Shape.TheVariants as shape
+use Rattle.type_table.specs.declared.shape.Property.{Property}
+use Rattle.type_table.specs.declared.shape.ModelType.{ModelType}
+use Rattle.type_table.specs.Table.{Catalog}
 use Rattle.edit_core.specs.Labelled.{Labelled}
 use Rattle.edit_core.specs.Template.{template, numbered, new_count}
 use Rattle.edit_core.specs.Matching.{by_first}

@@ -7,7 +7,7 @@ use Rattle.edit_core.specs.Typing.{Typing}
 use Rattle.edit_core.specs.Template.{Template, template, numbered, new_count}
 use Rattle.edit_core.specs.Matching.{by_first}
 use Rattle.edit_core.specs.Reconciling.{Setting, Written, reconciled, item_set}
-use Rattle.tree_core.specs.Ways.{with_part}
+use Rattle.edit_core.specs.Ways.{with_part}
 use Rattle.edit_core.specs.Logged.{LoggedEdit, logged, after_logged}
 
 -- the value after it, the edits that lead there, and the next number

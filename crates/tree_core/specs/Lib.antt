@@ -1,4 +1,3 @@
-pub mod Ways
 pub mod TypesTyping
 pub mod State
 pub mod Outcome

@@ -8,7 +8,7 @@ use Rattle.patch_core.specs.Application.{index_for, written}
 use Rattle.patch_core.specs.declared.patch.PatchOp.{PatchOp}
 use Rattle.patch_core.specs.declared.patch.PatchOp.TheVariants.{Add, Replace, Remove}
 use Rattle.patch_core.specs.declared.patch.Patch.{Patch}
-use Rattle.type_core.specs.Table.{Catalog}
+use Rattle.type_table.specs.Table.{Catalog}
 use Rattle.type_core.specs.Making.{Outcome}
 use Rattle.edit_core.specs.declared.kind.Kind.{Kind}
 use Rattle.edit_core.specs.declared.kind.Kind.TheVariants as kind
@@ -17,7 +17,7 @@ use Rattle.edit_core.specs.Typing.{label_of}
 use Rattle.tree_core.specs.declared.place.Place.{Place}
 use Rattle.tree_core.specs.declared.place.Place.TheVariants as place
 use Rattle.tree_core.specs.Write.{Write, set, insert, remove}
-use Rattle.tree_core.specs.Ways.{part_at}
+use Rattle.edit_core.specs.Ways.{part_at}
 use Rattle.tree_core.specs.Reading.{way_along}
 use Rattle.tree_core.specs.Outcome.{◌>>=◌, refuse, provided, or_refuse}
 use Rattle.tree_core.specs.Changed.{Changed}

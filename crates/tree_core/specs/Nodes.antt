@@ -9,7 +9,7 @@ use Rattle.edit_core.specs.declared.kind.Kind.{Kind}
 use Rattle.edit_core.specs.Labelled.{Label, Labelled, Entry, many, keyed, items_in, entries_in}
 use Rattle.edit_core.specs.Edit.{Turn, to_item, to_entry}
 use Rattle.edit_core.specs.Typing.{Typing, label_of, kind_in}
-use Rattle.tree_core.specs.Ways.{part_at}
+use Rattle.edit_core.specs.Ways.{part_at}
 
 -- where an entry with a key stands, or would go: behind those with lower keys
 abbrev pub place_in : List ℕ → List Entry → ℕ

@@ -7,9 +7,9 @@ use Rattle.snap_core.specs.declared.number.ModelNo.{ModelNo}
 use Rattle.snap_core.specs.declared.number.NodeNo.{NodeNo}
 use Rattle.pointer_core.specs.Path.{Path}
 use Rattle.patch_core.specs.Place.{index_below}
-use Rattle.type_core.specs.Table.{Table, shape_at}
-use Rattle.type_core.specs.Identifiers.{is_safe, ident_of}
-use Rattle.type_core.specs.Targets.{target_of}
+use Rattle.type_table.specs.Table.{Table, shape_at}
+use Rattle.type_table.specs.Identifiers.{is_safe, ident_of}
+use Rattle.type_table.specs.Targets.{target_of}
 use Rattle.type_core.specs.Doubled.{same_ident}
 use Rattle.edit_core.specs.declared.kind.Kind.{Kind}
 use Rattle.edit_core.specs.declared.kind.Kind.TheVariants as kind
@@ -20,7 +20,7 @@ use Rattle.edit_core.specs.Template.{entry_at}
 use Rattle.edit_core.specs.Plain.{token_of}
 use Rattle.tree_core.specs.declared.place.Place.{Place}
 use Rattle.tree_core.specs.declared.place.Place.TheVariants.{Whole, Prop, Item, Key}
-use Rattle.tree_core.specs.Ways.{way_to, part_at}
+use Rattle.edit_core.specs.Ways.{way_to, part_at}
 use Rattle.tree_core.specs.Nodes.{to_key}
 
 -- the node of a number; none where it is dead

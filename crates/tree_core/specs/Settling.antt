@@ -4,9 +4,9 @@ use Rattle.std.specs.List.{list_any}
 use Rattle.snap_core.specs.Value.{Value, null}
 use Rattle.snap_core.specs.declared.ident.Ident.{Ident}
 use Rattle.snap_core.specs.declared.number.ModelNo.{ModelNo}
-use Rattle.type_core.specs.Table.{Table, Catalog, shape_at}
-use Rattle.type_core.specs.Identifiers.{is_safe, ident_of}
-use Rattle.type_core.specs.Targets.{target_of}
+use Rattle.type_table.specs.Table.{Table, Catalog, shape_at}
+use Rattle.type_table.specs.Identifiers.{is_safe, ident_of}
+use Rattle.type_table.specs.Targets.{target_of}
 use Rattle.type_core.specs.Doubled.{Key, identifiers_of, key_of, same_key}
 use Rattle.edit_core.specs.declared.kind.Kind.{Kind}
 use Rattle.edit_core.specs.declared.kind.Kind.TheVariants as kind

@@ -3,12 +3,12 @@ use Rattle.std.specs.Prelude.{ℕ, List, Option, Some, None, slice_get, unwrap_o
 use Rattle.std.specs.Option.{option_map}
 use Rattle.snap_core.specs.Value.{Value, list, dict}
 use Rattle.snap_core.specs.declared.number.ModelNo.{ModelNo}
-use Rattle.type_core.specs.declared.shape.Shape.{Shape}
-use Rattle.type_core.specs.declared.shape.Shape.TheVariants as shape
-use Rattle.type_core.specs.declared.shape.ModelType.{ModelType}
-use Rattle.type_core.specs.Table.{Table, Catalog, properties_of}
-use Rattle.type_core.specs.Unions.{property_at}
-use Rattle.type_core.specs.Identifiers.{identifier_of}
+use Rattle.type_table.specs.declared.shape.Shape.{Shape}
+use Rattle.type_table.specs.declared.shape.Shape.TheVariants as shape
+use Rattle.type_table.specs.declared.shape.ModelType.{ModelType}
+use Rattle.type_table.specs.Table.{Table, Catalog, properties_of}
+use Rattle.type_table.specs.Unions.{property_at}
+use Rattle.type_table.specs.Identifiers.{identifier_of}
 use Rattle.type_core.specs.Judging.{judged_by}
 use Rattle.edit_core.specs.declared.kind.Kind.{Kind}
 use Rattle.edit_core.specs.declared.kind.Kind.TheVariants as kind

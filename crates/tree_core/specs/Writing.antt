@@ -7,8 +7,8 @@ use Rattle.snap_core.specs.declared.number.ModelNo.{ModelNo}
 use Rattle.snap_core.specs.declared.number.NodeNo.{NodeNo}
 use Rattle.pointer_core.specs.Path.{Path}
 use Rattle.pointer_core.specs.declared.refusal.Rule.TheVariants as rule
-use Rattle.type_core.specs.Table.{Catalog}
-use Rattle.type_core.specs.Identifiers.{ident_in}
+use Rattle.type_table.specs.Table.{Catalog}
+use Rattle.type_table.specs.Identifiers.{ident_in}
 use Rattle.type_core.specs.Judging.{judged_by}
 use Rattle.type_core.specs.Making.{Outcome, making, maker_of, limited, keyed as under_key, is_within}
 use Rattle.type_core.specs.Doubled.{identifiers_of, doubled_of}
@@ -26,7 +26,7 @@ use Rattle.tree_core.specs.declared.place.Place.{Place}
 use Rattle.tree_core.specs.declared.place.Place.TheVariants as place
 use Rattle.tree_core.specs.Write.{Write, set, insert, remove}
 use Rattle.tree_core.specs.TypesTyping.{typing_of, root_type, model_type}
-use Rattle.tree_core.specs.Ways.{way_to, part_at}
+use Rattle.edit_core.specs.Ways.{way_to, part_at}
 use Rattle.tree_core.specs.Nodes.{may_write, type_at, to_key, entries_of, items_of, part_type}
 use Rattle.tree_core.specs.Outcome.{◌>>=◌, refuse, provided, or_refuse, seen_from}
 use Rattle.tree_core.specs.Changed.{Changed, placed, value_set, one_item_set, part_added, part_removed}

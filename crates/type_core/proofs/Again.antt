@@ -5,7 +5,6 @@ use Rattle.std.specs.Borrow.{Bor}
 use Rattle.std.specs.Str.{bytes_eq}
 use Rattle.std.proofs.lemmas.Cmp.{nat_list_cmp_total, tied_itself}
 use Rattle.std.proofs.lemmas.Slice.Eq.{bytes_eq-Decides}
-use Rattle.std.proofs.lemmas.Option.{slice_get_within, get_or_from_slice_get}
 use Rattle.pointer_core.specs.declared.refusal.Rule.TheVariants.{Large}
 use Rattle.snap_core.specs.declared.snap.Snap.{Snap}
 use Rattle.snap_core.specs.declared.number.TypeNo.{TypeNo}
@@ -13,19 +12,19 @@ use Rattle.snap_core.specs.Value.{Value, null, boolean, integer, text, list, dic
 use Rattle.snap_core.specs.View.{view}
 use Rattle.type_core.specs.declared.making.MakeError.{MakeError}
 use Rattle.type_core.specs.declared.making.MakeError.TheVariants.{Memory, Refused}
-use Rattle.type_core.specs.declared.shape.Shape.{Shape}
-use Rattle.type_core.specs.declared.shape.Shape.TheVariants.{Identifier, IdentifierNumber, Optional, Maybe, MaybeNull, Union, Array, Map, Model, Named}
+use Rattle.type_table.specs.declared.shape.Shape.{Shape}
+use Rattle.type_table.specs.declared.shape.Shape.TheVariants.{Identifier, IdentifierNumber, Optional, Maybe, MaybeNull, Union, Array, Map, Model, Named}
 use Rattle.snap_core.specs.declared.number.ModelNo.{ModelNo}
 use Rattle.snap_core.specs.declared.ident.Ident.{Ident}
-use Rattle.type_core.specs.declared.shape.Property.{Property}
-use Rattle.type_core.specs.Table.{Table, Catalog, shape_at, properties_of, plan_of, names_of, AreNamed, IsShapeOf}
-use Rattle.type_core.specs.Identifiers.{is_identifier, identifies, identifier_of, ident_of, ident_under, ident_in, is_keyed, is_safe}
+use Rattle.type_table.specs.declared.shape.Property.{Property}
+use Rattle.type_table.specs.Table.{Table, Catalog, shape_at, properties_of, names_of, AreNamed}
+use Rattle.type_table.specs.Identifiers.{is_identifier, identifies, identifier_of, ident_of, ident_under, ident_in, is_keyed, is_safe}
 use Rattle.type_core.specs.Judging.{is_null, judged_step, judged_within, judged_by}
 use Rattle.type_core.specs.Making.{Outcome, mistyped, scalar_made, list_made, dict_made, absent, maker_of, makers_of, fields_of, made_by, is_within, limited, making}
 use Rattle.type_core.specs.Makes.{IsMaybe, maybe, maybe_null, Makes, string, whole, truth, nothing, literal, enumeration, identifier, identifier_number, reference, safe, safe_of_null, safe_absent, frozen, frozen_absent, optional, optional_absent, maybe_of_null, maybe_absent, maybe_other, union, refinement, array, array_absent, map, map_absent, model, name, MakesItems, no_items, one_item, MakesValues, no_values, one_value, MakesEach, no_more, one_more, MakesWithin}
 use Rattle.type_core.specs.Made.{Answers, value_of}
 use Rattle.type_core.specs.Sound.{IsSound}
-use Rattle.type_core.proofs.Sound.{AreNamed-properties_of, IsShapeOf-shape}
+use Rattle.type_core.proofs.Sound.{AreNamed-properties_of, IsShapeOf-at}
 use Rattle.snap_core.proofs.Keys.{IsPlain-value_at}
 use Rattle.snap_core.proofs.Finding.{key_cmp, bytes_eq-Equal, bytes_eq-Less}
 use Rattle.type_core.proofs.Chains.{shape_for-at, judged_by-at}
@@ -53,12 +52,7 @@ keys-values table _ _ _ (one_value t k v s given made one key rest) = ap (λ ks.
 
 -- a default is plain
 pub IsPlain-default : (types : Catalog) → IsSound types → (t : ℕ) (u : TypeNo) (d : Snap) → shape_at types.table t ≡ Some (Optional u d) → IsPlain (view d)
-IsPlain-default types sound t u d e =
-    let shape : Shape = Optional u d in
-    let within = slice_get_within types.table.shapes t shape e in
-    let P : Shape → Type 0 = IsShapeOf (plan_of types.table) in
-    let of : IsShapeOf (plan_of types.table) shape = subst P (get_or_from_slice_get types.table.shapes t shape shape e) (IsShapeOf-shape types t shape sound within) in
-    of.plain
+IsPlain-default types sound t u d e = (IsShapeOf-at types sound t (Optional u d) e).plain
 
 -- a key that is made comes after a name before the properties'
 pub key-after : (table : Table) (first : List ℕ) (given : Fields) (ps : List Property) (made : Fields)

@@ -6,13 +6,13 @@ use Rattle.std.proofs.lemmas.Map.Steps.{length-le_from_distinct_below}
 use Rattle.snap_core.specs.Value.{Value, null, boolean, integer, text, list, dict, Fields}
 use Rattle.snap_core.specs.declared.number.TypeNo.{TypeNo}
 use Rattle.snap_core.specs.declared.number.ModelNo.{ModelNo}
-use Rattle.type_core.specs.declared.shape.Shape.{Shape}
-use Rattle.type_core.specs.declared.shape.Shape.TheVariants.{Optional, Maybe, MaybeNull, Union, Safe, Named}
-use Rattle.type_core.specs.Table.{Table, shape_at, leads_of}
-use Rattle.type_core.specs.Names.{LeadsTo, at_once, by_way, named_step, named_within, named_by, shape_by}
-use Rattle.type_core.specs.Unions.{is_map, model_in, model_before, models_of, literal_at, is_literal, tag_of, tagged, only_model, chosen_by_field, chosen_by_tag, chosen_for_record, chosen}
+use Rattle.type_table.specs.declared.shape.Shape.{Shape}
+use Rattle.type_table.specs.declared.shape.Shape.TheVariants.{Optional, Maybe, MaybeNull, Union, Safe, Named}
+use Rattle.type_table.specs.Table.{Table, shape_at, leads_of}
+use Rattle.type_table.specs.Names.{LeadsTo, at_once, by_way, named_step, named_within, named_by, shape_by}
+use Rattle.type_table.specs.Unions.{is_map, model_in, model_before, models_of, literal_at, is_literal, tag_of, tagged, only_model, chosen_by_field, chosen_by_tag, chosen_for_record, chosen}
 use Rattle.snap_core.specs.Value.{value_at}
-use Rattle.type_core.specs.Identifiers.{is_safe, is_firm, of_property}
+use Rattle.type_table.specs.Identifiers.{is_safe, is_firm, of_property}
 use Rattle.type_core.specs.Judging.{is_null, shape_for, judged_by_choice, judged_step, judged_within, judged_by}
 
 -- the first of a list, and one of those after it

@@ -6,12 +6,12 @@ use Rattle.std.proofs.lemmas.Slice.Eq.{bytes_eq-Decides}
 use Rattle.snap_core.specs.Value.{Value, null, boolean, integer, text, list, dict, member, Items, Fields}
 use Rattle.snap_core.specs.declared.number.TypeNo.{TypeNo}
 use Rattle.snap_core.specs.declared.number.ModelNo.{ModelNo}
-use Rattle.type_core.specs.declared.shape.Shape.{Shape}
-use Rattle.type_core.specs.declared.shape.Shape.TheVariants.{Model, Named}
-use Rattle.type_core.specs.declared.shape.Property.{Property}
-use Rattle.type_core.specs.Table.{Table, AreNamed, shape_at, properties_of}
-use Rattle.type_core.specs.Names.{named_step, named_within, named_by, shape_by}
-use Rattle.type_core.specs.Unions.{is_same, is_literal, property_at, literal_by, literal_at, model_in, model_before, models_of, tag_of, tagged, is_map, chosen_by_field, chosen_by_tag, chosen_for_record, chosen}
+use Rattle.type_table.specs.declared.shape.Shape.{Shape}
+use Rattle.type_table.specs.declared.shape.Shape.TheVariants.{Model, Named}
+use Rattle.type_table.specs.declared.shape.Property.{Property}
+use Rattle.type_table.specs.Table.{Table, AreNamed, shape_at, properties_of}
+use Rattle.type_table.specs.Names.{named_step, named_within, named_by, shape_by}
+use Rattle.type_table.specs.Unions.{is_same, is_literal, property_at, literal_by, literal_at, model_in, model_before, models_of, tag_of, tagged, is_map, chosen_by_field, chosen_by_tag, chosen_for_record, chosen}
 use Rattle.snap_core.specs.Value.{value_at}
 use Rattle.type_core.specs.Makes.{Makes, IsMaybe, maybe, maybe_null, string, whole, truth, nothing, literal, enumeration, identifier, identifier_number, reference, safe, safe_of_null, safe_absent, frozen, frozen_absent, optional, optional_absent, maybe_of_null, maybe_absent, maybe_other, union, refinement, array, array_absent, map, map_absent, model, name, MakesEach, no_more, one_more}
 

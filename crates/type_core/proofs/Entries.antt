@@ -5,12 +5,12 @@ use Rattle.snap_core.specs.Value.{Value, no_members, Fields}
 use Rattle.snap_core.specs.declared.snap.Field.{Field}
 use Rattle.snap_core.specs.declared.snap.Snap.{Snap}
 use Rattle.snap_core.specs.View.{view, entry, fields_view}
-use Rattle.type_core.specs.declared.shape.Property.{Property}
+use Rattle.type_table.specs.declared.shape.Property.{Property}
 use Rattle.type_core.specs.declared.making.MakeError.{MakeError}
 use Rattle.type_core.specs.declared.making.MakeError.TheVariants.{Memory, Refused}
-use Rattle.type_core.specs.Table.{Table}
+use Rattle.type_table.specs.Table.{Table}
 use Rattle.type_core.specs.Made.{Answers, refused_as}
-use Rattle.type_core.specs.Identifiers.{ident_in}
+use Rattle.type_table.specs.Identifiers.{ident_in}
 use Rattle.type_core.specs.Judging.{judged_by}
 use Rattle.type_core.specs.Making as making
 use Rattle.type_core.specs.Making.{Outcome, Maker, FieldMakers, keyed, maker_of, fields_of, under, entry_made, entries_made, property_made, properties_made, field_at}

@@ -8,13 +8,13 @@ use Rattle.snap_core.specs.declared.number.ModelNo.{ModelNo}
 use Rattle.pointer_core.specs.Path.{Path}
 use Rattle.pointer_core.specs.declared.refusal.Rule.{Rule}
 use Rattle.pointer_core.specs.declared.refusal.Rule.TheVariants.{Mistyped, Refine}
-use Rattle.type_core.specs.declared.shape.Shape.{Shape}
-use Rattle.type_core.specs.declared.shape.Shape.TheVariants as shape
-use Rattle.type_core.specs.declared.shape.Condition.TheVariants.{Min, Max, StartsWith}
+use Rattle.type_table.specs.declared.shape.Shape.{Shape}
+use Rattle.type_table.specs.declared.shape.Shape.TheVariants as shape
+use Rattle.type_table.specs.declared.shape.Condition.TheVariants.{Min, Max, StartsWith}
 use Rattle.snap_core.proofs.Views.{view-snap_of}
-use Rattle.type_core.specs.Table.{Table, Catalog}
+use Rattle.type_table.specs.Table.{Table, Catalog}
 use Rattle.type_core.specs.Making.{Outcome, making}
-use Rattle.type_core.specs.Unions.{are_apart, chosen, tag_of, models_of}
+use Rattle.type_table.specs.Unions.{are_apart, chosen, tag_of, models_of}
 
 abbrev type : ℕ → TypeNo
 type n = record { 0 = n }

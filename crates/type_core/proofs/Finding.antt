@@ -9,8 +9,8 @@ use Rattle.snap_core.specs.View.{view, items_view, fields_view}
 use Rattle.snap_core.specs.declared.snap.Snap.{Snap}
 use Rattle.snap_core.specs.declared.snap.Field.{Field}
 use Rattle.snap_core.proofs.Views.{entry-fields}
-use Rattle.type_core.specs.declared.shape.Property.{Property}
-use Rattle.type_core.specs.Table.{Table}
+use Rattle.type_table.specs.declared.shape.Property.{Property}
+use Rattle.type_table.specs.Table.{Table}
 use Rattle.type_core.specs.Doubled.{Identified, Key, key_of, same_key, doubled_after, lowered, Finder, finder_of, finders_of, keyed_finders_of, found_in_items, found_in_values, found_under, found_in_properties}
 use Rattle.type_core.specs.Finding.{Finds}
 

@@ -6,7 +6,7 @@ use Rattle.snap_core.specs.declared.snap.Snap.{Snap}
 use Rattle.snap_core.specs.View.{view, items_view}
 use Rattle.type_core.specs.declared.making.MakeError.{MakeError}
 use Rattle.type_core.specs.declared.making.MakeError.TheVariants.{Memory, Refused}
-use Rattle.type_core.specs.Table.{Table}
+use Rattle.type_table.specs.Table.{Table}
 use Rattle.type_core.specs.Made.{Answers, refused_as}
 use Rattle.type_core.specs.Making as making
 use Rattle.type_core.specs.Making.{Outcome, maker_of, makers_of, under, part_made, items_made}

@@ -6,8 +6,8 @@ use Rattle.snap_core.specs.Value.{Value, IsPlain}
 use Rattle.snap_core.specs.View.{view}
 use Rattle.pointer_core.specs.declared.refusal.Rule.TheVariants.{Key}
 use Rattle.type_core.specs.declared.making.MakeError.{MakeError}
-use Rattle.type_core.specs.Table.{Catalog}
-use Rattle.type_core.specs.Identifiers.{ident_in, is_keyed}
+use Rattle.type_table.specs.Table.{Catalog}
+use Rattle.type_table.specs.Identifiers.{ident_in, is_keyed}
 use Rattle.type_core.specs.Judging.{judged_by}
 use Rattle.type_core.specs.Making.{Outcome, keyed, refused, limited, maker_of, entry_making}
 use Rattle.type_core.specs.Made.{Answers}

@@ -11,14 +11,14 @@ use Rattle.snap_core.specs.View.{view}
 use Rattle.snap_core.specs.declared.snap.Snap.{Snap}
 use Rattle.snap_core.specs.declared.number.TypeNo.{TypeNo}
 use Rattle.pointer_core.specs.declared.refusal.Rule.TheVariants.{Mistyped, Refine}
-use Rattle.type_core.specs.declared.shape.Shape.{Shape}
-use Rattle.type_core.specs.declared.shape.Shape.TheVariants.{Str, Integer, Boolean, Null, Literal, Enumeration, Identifier, IdentifierNumber, Frozen, Optional, Maybe, MaybeNull, Union, Refinement, Array, Map, Model, Reference, Safe, Named}
-use Rattle.type_core.specs.declared.shape.Property.{Property}
-use Rattle.type_core.specs.Table.{Table, shape_at, properties_of, default_at}
-use Rattle.type_core.specs.Names.{named_step, named_within, named_by, shape_by}
-use Rattle.type_core.specs.Identifiers.{shape_of, identifier_in, is_of_kind, is_key, is_firm, ident_in}
+use Rattle.type_table.specs.declared.shape.Shape.{Shape}
+use Rattle.type_table.specs.declared.shape.Shape.TheVariants.{Str, Integer, Boolean, Null, Literal, Enumeration, Identifier, IdentifierNumber, Frozen, Optional, Maybe, MaybeNull, Union, Refinement, Array, Map, Model, Reference, Safe, Named}
+use Rattle.type_table.specs.declared.shape.Property.{Property}
+use Rattle.type_table.specs.Table.{Table, shape_at, properties_of, default_at}
+use Rattle.type_table.specs.Names.{named_step, named_within, named_by, shape_by}
+use Rattle.type_table.specs.Identifiers.{shape_of, identifier_in, is_of_kind, is_key, is_firm, ident_in}
 use Rattle.snap_core.specs.declared.ident.Ident.{Ident}
-use Rattle.type_core.specs.Unions.{is_scalar, is_same, is_based, takes, chosen}
+use Rattle.type_table.specs.Unions.{is_scalar, is_same, is_based, takes, chosen}
 use Rattle.snap_core.specs.Value.{value_at}
 use Rattle.type_core.specs.Judging.{is_null, shape_for, judged_by_choice, judged_step, judged_within, judged_by}
 use Rattle.type_core.specs.Making.{Outcome, admits, conditions_of, refused, scalar_made, default_made, absent_made, absent, items_made, keyed, entries_made, field_at, property_made, properties_made, list_of, record_of, list_made, dict_made, maker_of, makers_of, fields_of, made_by}

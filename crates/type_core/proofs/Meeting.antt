@@ -9,10 +9,10 @@ use Rattle.std.specs.List.{list_any, list_all, filter}
 use Rattle.std.specs.Option.{option_map}
 use Rattle.snap_core.specs.Value.{Value, null, boolean, integer, text, list, dict}
 use Rattle.snap_core.specs.declared.number.TypeNo.{TypeNo}
-use Rattle.type_core.specs.Table.{Table, Catalog, shape_at}
+use Rattle.type_table.specs.Table.{Table, Catalog, shape_at}
 use Rattle.type_core.specs.Sound.{IsSound}
-use Rattle.type_core.specs.Names.{shape_by}
-use Rattle.type_core.specs.Unions.{is_same, is_scalar, IsTaker, chosen, chosen_by, takes, scalars_of, is_among, do_meet, none_meet, is_member, is_array, is_map, models_of, is_alone, have_tag, are_apart, texts, integers, booleans, these, Scalars}
+use Rattle.type_table.specs.Names.{shape_by}
+use Rattle.type_table.specs.Unions.{is_same, is_scalar, IsTaker, chosen, chosen_by, takes, scalars_of, is_among, do_meet, none_meet, is_member, is_array, is_map, models_of, is_alone, have_tag, are_apart, texts, integers, booleans, these, Scalars}
 use Rattle.type_core.proofs.Telling.{takes-is_among}
 
 -- the same scalar is one scalar

@@ -8,7 +8,7 @@ use Rattle.snap_core.specs.Unview.{snap_of}
 use Rattle.snap_core.specs.declared.snap.Snap.{Snap}
 use Rattle.snap_core.specs.declared.number.ModelNo.{ModelNo}
 use Rattle.snap_core.proofs.Views.{snap_of-view}
-use Rattle.type_core.specs.Table.{Table, default_at}
+use Rattle.type_table.specs.Table.{Table, default_at}
 use Rattle.type_core.specs.Makes.{Makes}
 use Rattle.type_core.specs.Sound.{IsSound, TypesAreOne}
 use Rattle.type_core.proofs.Laws.{made_by-complete}

@@ -3,12 +3,12 @@ use Rattle.std.proofs.Common.{◌≡◌, ℕ, List, Bool, true, false, Option, S
 use Rattle.std.specs.Str.{bytes_eq}
 use Rattle.snap_core.specs.Value.{Value, list, dict, part, no_members, member, Items, Fields}
 use Rattle.snap_core.specs.declared.snap.Snap.{Snap}
-use Rattle.type_core.specs.declared.shape.Property.{Property}
-use Rattle.type_core.specs.Table.{Table}
+use Rattle.type_table.specs.declared.shape.Property.{Property}
+use Rattle.type_table.specs.Table.{Table}
 use Rattle.snap_core.specs.Value.{value_at}
 use Rattle.pointer_core.specs.declared.refusal.Rule.TheVariants.{Key}
 use Rattle.snap_core.specs.declared.ident.Ident.{Ident}
-use Rattle.type_core.specs.Identifiers.{is_keyed}
+use Rattle.type_table.specs.Identifiers.{is_keyed}
 use Rattle.type_core.specs.Making.{Outcome, refused, keyed, under, Maker, default_made, absent, part_made, entry_made, field_at, property_made, list_of, record_of, maker_of, fields_of, made_by}
 
 -- what an item or an entry in front that is made comes from

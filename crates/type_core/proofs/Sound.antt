@@ -3,19 +3,17 @@ use Rattle.std.proofs.Common.{◌≡◌, ℕ, zero, suc, ◌<◌, List, [], ◌�
 use Rattle.std.proofs.Math.ListN.{get_or-map}
 use Rattle.std.proofs.lemmas.List.{length-map}
 use Rattle.std.proofs.lemmas.List.Elements.{All-weaker, All-contains}
+use Rattle.std.proofs.lemmas.Option.{slice_get_within, get_or_from_slice_get}
 use Rattle.snap_core.specs.Value.{Value}
 use Rattle.snap_core.specs.declared.number.TypeNo.{TypeNo}
-use Rattle.type_core.specs.declared.shape.Shape.{Shape}
-use Rattle.type_core.specs.declared.shape.Shape.TheVariants.{Model, Union}
-use Rattle.type_core.specs.declared.shape.Property.{Property}
-use Rattle.type_core.specs.declared.shape.ModelType.{ModelType}
-use Rattle.type_core.specs.Table.{Catalog, plan_of, shape_at, properties_of, AreNamed, AreTyped, IsShapeOf}
-use Rattle.type_core.specs.Reaching.{leads_at}
-use Rattle.type_core.specs.Unions.{chosen, chosen_by}
+use Rattle.type_table.specs.declared.shape.Shape.{Shape}
+use Rattle.type_table.specs.declared.shape.Shape.TheVariants.{Model, Union}
+use Rattle.type_table.specs.declared.shape.Property.{Property}
+use Rattle.type_table.specs.declared.shape.ModelType.{ModelType}
+use Rattle.type_table.specs.Table.{Catalog, plan_of, shape_at, properties_of, AreNamed, AreTyped, IsShapeOf}
+use Rattle.type_table.specs.Unions.{chosen, chosen_by}
 use Rattle.type_core.specs.Sound.{IsSound}
 use Rattle.type_core.proofs.Chains.{chosen-member}
-use Rattle.type_core.proofs.Loops.{leads_from_shape, leads_within}
-use Rattle.type_core.proofs.Plans.{AreKnown-begun}
 
 pub slice_get-map_some : {X : Type 0} (xs : List X) (i : ℕ) (x : X) → slice_get (map Some xs) i ≡ Some (Some x) → slice_get xs i ≡ Some x
 slice_get-map_some [] i x h = cc
@@ -53,6 +51,12 @@ IsShapeOf-shape types k d sound h =
     let P : Option Shape → Type 0 = λ s. IfSome s (IsShapeOf (plan_of types.table)) in
     subst P (get_or-map Some types.table.shapes k d) (sound.begun.shapes k (Some d) (omega (arith, length-map types.table.shapes Some)))
 
+-- the shape of a type of this number
+pub IsShapeOf-at : (types : Catalog) → IsSound types → (t : ℕ) (shape : Shape) → shape_at types.table t ≡ Some shape → IsShapeOf (plan_of types.table) shape
+IsShapeOf-at types sound t shape e =
+    let P : Shape → Type 0 = IsShapeOf (plan_of types.table) in
+    subst P (get_or_from_slice_get types.table.shapes t shape shape e) (IsShapeOf-shape types t shape sound (slice_get_within types.table.shapes t shape e))
+
 -- the member that a value chooses is one of the types
 pub IfSome-chosen_by : (types : Catalog) → IsSound types → (t : ℕ) (v : Value)
     → IfSome (chosen_by types.table (shape_at types.table t) v) (λ m. m.0 < length types.table.shapes)
@@ -62,12 +66,10 @@ IfSome-chosen_by types sound t v = by_shape (shape_at types.table t) refl
         → IfSome o (λ m. m.0 < length types.table.shapes)
     by_choice ms e None h = tt
     by_choice ms e (Some m) h =
-        let shape : Shape = Union ms in
-        let leads : leads_at types.table t ≡ ms = leads_from_shape types.table t shape e in
-        let P : TypeNo → Type 0 = λ u. u.0 < length types.table.shapes in
-        let Q : List TypeNo → Type 0 = All P in
-        let within : All P ms = subst Q leads (leads_within types.table t (AreKnown-begun types.table sound.begun)) in
-        All-contains P ms m within (chosen-member types.table ms v m h)
+        let of : IsShapeOf (plan_of types.table) (Union ms) = IsShapeOf-at types sound t (Union ms) e in
+        let P : TypeNo → Type 0 = λ u. u.0 < length (map Some types.table.shapes) in
+        let within = All-contains P ms m of.types.leads (chosen-member types.table ms v m h) in
+        omega (arith, length-map types.table.shapes Some, within)
 
     by_shape : (o : Option Shape) → shape_at types.table t ≡ o → IfSome (chosen_by types.table o v) (λ m. m.0 < length types.table.shapes)
     by_shape (Some (Union ms)) e = by_choice ms e (chosen types.table ms v) refl

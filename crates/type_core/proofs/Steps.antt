@@ -6,8 +6,8 @@ use Rattle.snap_core.specs.Value.{Value, no_members, member, IsPlain, ArePlainMe
 use Rattle.snap_core.specs.declared.snap.Field.{Field}
 use Rattle.snap_core.specs.declared.snap.Snap.{Snap}
 use Rattle.snap_core.specs.View.{view, fields_view, items_view}
-use Rattle.type_core.specs.declared.shape.Property.{Property}
-use Rattle.type_core.specs.Table.{Table}
+use Rattle.type_table.specs.declared.shape.Property.{Property}
+use Rattle.type_table.specs.Table.{Table}
 use Rattle.type_core.specs.Making.{Maker, maker_of, fields_of, field_at, property_made}
 use Rattle.snap_core.specs.Value.{value_at}
 use Rattle.snap_core.proofs.Views.{entry-fields}

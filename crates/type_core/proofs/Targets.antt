@@ -4,13 +4,13 @@ use Rattle.std.specs.Prelude.{IfNone, is_none}
 use Rattle.std.proofs.lemmas.Option.{slice_get_within, get_or_from_slice_get}
 use Rattle.snap_core.specs.declared.number.TypeNo.{TypeNo}
 use Rattle.snap_core.specs.declared.number.ModelNo.{ModelNo}
-use Rattle.type_core.specs.declared.shape.Shape.{Shape}
-use Rattle.type_core.specs.declared.shape.Shape.TheVariants.{Model, Reference, Safe}
-use Rattle.type_core.specs.declared.shape.Property.{Property}
-use Rattle.type_core.specs.Table.{Catalog, shape_at, plan_of, IsShapeOf}
-use Rattle.type_core.specs.Identifiers.{identifier_of, identifier_in, is_reference}
-use Rattle.type_core.specs.Unions.{model_in}
-use Rattle.type_core.specs.Targets.{target_of}
+use Rattle.type_table.specs.declared.shape.Shape.{Shape}
+use Rattle.type_table.specs.declared.shape.Shape.TheVariants.{Model, Reference, Safe}
+use Rattle.type_table.specs.declared.shape.Property.{Property}
+use Rattle.type_table.specs.Table.{Catalog, shape_at, plan_of, IsShapeOf}
+use Rattle.type_table.specs.Identifiers.{identifier_of, identifier_in, is_reference}
+use Rattle.type_table.specs.Unions.{model_in}
+use Rattle.type_table.specs.Targets.{target_of}
 use Rattle.type_core.specs.Sound.{IsSound}
 use Rattle.type_core.proofs.Sound.{IsShapeOf-shape}
 

@@ -10,12 +10,12 @@ use Rattle.std.specs.Str.{bytes_eq}
 use Rattle.snap_core.specs.Value.{Value, null, boolean, integer, text, list, dict}
 use Rattle.snap_core.specs.View.{view}
 use Rattle.snap_core.specs.declared.number.TypeNo.{TypeNo}
-use Rattle.type_core.specs.declared.shape.Shape.{Shape}
-use Rattle.type_core.specs.declared.shape.Shape.TheVariants.{Str, Integer, Boolean, Null, Literal, Enumeration, Refinement, Array, Map, Model}
-use Rattle.type_core.specs.Table.{Table}
-use Rattle.type_core.specs.Names.{shape_by}
-use Rattle.type_core.specs.Unions.{is_same, is_based, takes, base_scalars, scalars_of, is_among, do_meet, is_member, none_meet, texts, integers, booleans, these}
-use Rattle.type_core.proofs.Tagging.{list_any-map}
+use Rattle.type_table.specs.declared.shape.Shape.{Shape}
+use Rattle.type_table.specs.declared.shape.Shape.TheVariants.{Str, Integer, Boolean, Null, Literal, Enumeration, Refinement, Array, Map, Model}
+use Rattle.type_table.specs.Table.{Table}
+use Rattle.type_table.specs.Names.{shape_by}
+use Rattle.type_table.specs.Unions.{is_same, is_based, takes, base_scalars, scalars_of, is_among, do_meet, is_member, none_meet, texts, integers, booleans, these}
+use Rattle.type_table.proofs.Tagging.{list_any-map}
 
 -- equal scalars are so either way round
 int_eq-back : (y z : ℤ) → int_eq y z ≡ int_eq z y

@@ -8,11 +8,11 @@ use Rattle.snap_core.specs.Value.{Value, null, boolean, integer, text, list, dic
 use Rattle.snap_core.specs.declared.number.ModelNo.{ModelNo}
 use Rattle.snap_core.specs.declared.ident.Ident.{Ident}
 use Rattle.snap_core.specs.declared.ident.Ident.TheVariants as ident
-use Rattle.type_core.specs.declared.shape.Shape.{Shape}
-use Rattle.type_core.specs.declared.shape.Shape.TheVariants.{Array, Map, Model}
-use Rattle.type_core.specs.declared.shape.Property.{Property}
-use Rattle.type_core.specs.Table.{Table, Catalog, properties_of}
-use Rattle.type_core.specs.Identifiers.{identifier_of, ident_under}
+use Rattle.type_table.specs.declared.shape.Shape.{Shape}
+use Rattle.type_table.specs.declared.shape.Shape.TheVariants.{Array, Map, Model}
+use Rattle.type_table.specs.declared.shape.Property.{Property}
+use Rattle.type_table.specs.Table.{Table, Catalog, properties_of}
+use Rattle.type_table.specs.Identifiers.{identifier_of, ident_under}
 use Rattle.type_core.specs.Judging.{judged_by}
 
 -- a model with an identifier, and where it stands

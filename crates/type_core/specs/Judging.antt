@@ -2,11 +2,11 @@
 use Rattle.std.specs.Prelude.{ℕ, zero, suc, length, Bool, true, false, ◌&&◌, Option, Some, None, if◌then◌else◌}
 use Rattle.snap_core.specs.Value.{Value, null}
 use Rattle.snap_core.specs.declared.number.TypeNo.{TypeNo}
-use Rattle.type_core.specs.declared.shape.Shape.{Shape}
-use Rattle.type_core.specs.declared.shape.Shape.TheVariants.{Optional, Maybe, MaybeNull, Union, Named}
-use Rattle.type_core.specs.Table.{Table, shape_at}
-use Rattle.type_core.specs.Identifiers.{is_firm}
-use Rattle.type_core.specs.Unions.{chosen}
+use Rattle.type_table.specs.declared.shape.Shape.{Shape}
+use Rattle.type_table.specs.declared.shape.Shape.TheVariants.{Optional, Maybe, MaybeNull, Union, Named}
+use Rattle.type_table.specs.Table.{Table, shape_at}
+use Rattle.type_table.specs.Identifiers.{is_firm}
+use Rattle.type_table.specs.Unions.{chosen}
 
 abbrev pub is_null : Value → Bool
 is_null null = true

@@ -1,7 +1,7 @@
 -- One step of judging, as the code takes it.
 use Rattle.std.specs.Prelude.{ℕ, Option}
 use Rattle.std.specs.Option.{option_copied}
-use Rattle.type_core.specs.declared.shape.Shape.{Shape}
+use Rattle.type_table.specs.declared.shape.Shape.{Shape}
 use Rattle.type_core.specs.declared.judging.Step.{Step}
 use Rattle.type_core.specs.declared.judging.Step.TheVariants.{On, Ends}
 

@@ -5,15 +5,15 @@ use Rattle.snap_core.specs.View.{view}
 use Rattle.snap_core.specs.declared.snap.Snap.{Snap}
 use Rattle.snap_core.specs.declared.number.ModelNo.{ModelNo}
 use Rattle.snap_core.specs.declared.number.TypeNo.{TypeNo}
-use Rattle.type_core.specs.declared.shape.Shape.{Shape}
-use Rattle.type_core.specs.declared.shape.Shape.TheVariants.{Str, Integer, Boolean, Null, Literal, Enumeration, Identifier, IdentifierNumber, Frozen, Optional, Maybe, MaybeNull, Union, Refinement, Array, Map, Model, Reference, Safe, Named}
-use Rattle.type_core.specs.declared.shape.Condition.{Condition}
-use Rattle.type_core.specs.declared.shape.Property.{Property}
-use Rattle.type_core.specs.Table.{Table, shape_at, properties_of}
-use Rattle.type_core.specs.Names.{shape_by}
-use Rattle.type_core.specs.Identifiers.{is_key, of_property, ident_in, is_keyed}
+use Rattle.type_table.specs.declared.shape.Shape.{Shape}
+use Rattle.type_table.specs.declared.shape.Shape.TheVariants.{Str, Integer, Boolean, Null, Literal, Enumeration, Identifier, IdentifierNumber, Frozen, Optional, Maybe, MaybeNull, Union, Refinement, Array, Map, Model, Reference, Safe, Named}
+use Rattle.type_table.specs.declared.shape.Condition.{Condition}
+use Rattle.type_table.specs.declared.shape.Property.{Property}
+use Rattle.type_table.specs.Table.{Table, shape_at, properties_of}
+use Rattle.type_table.specs.Names.{shape_by}
+use Rattle.type_table.specs.Identifiers.{is_key, of_property, ident_in, is_keyed}
 use Rattle.type_core.specs.Judging.{judged_by}
-use Rattle.type_core.specs.Unions.{is_same, is_based, chosen}
+use Rattle.type_table.specs.Unions.{is_same, is_based, chosen}
 use Rattle.type_core.specs.Making.{admits, fits, is_within}
 
 -- what a default may be once it is made: a weight of 65,536 and a depth of 64

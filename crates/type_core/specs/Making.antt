@@ -8,16 +8,16 @@ use Rattle.snap_core.specs.declared.snap.Snap.{Snap}
 use Rattle.pointer_core.specs.Path.{Path}
 use Rattle.pointer_core.specs.declared.refusal.Rule.{Rule}
 use Rattle.pointer_core.specs.declared.refusal.Rule.TheVariants.{Mistyped, Refine, Key, Large}
-use Rattle.type_core.specs.declared.shape.Shape.{Shape}
-use Rattle.type_core.specs.declared.shape.Shape.TheVariants.{Frozen, Optional, Maybe, MaybeNull, Refinement, Array, Map, Model, Safe}
-use Rattle.type_core.specs.declared.shape.Condition.{Condition}
-use Rattle.type_core.specs.declared.shape.Condition.TheVariants.{Min, Max, MinLength, MaxLength, StartsWith}
-use Rattle.type_core.specs.declared.shape.Property.{Property}
-use Rattle.type_core.specs.Table.{Table, Catalog, shape_at, properties_of, default_at}
-use Rattle.type_core.specs.Names.{named_by}
+use Rattle.type_table.specs.declared.shape.Shape.{Shape}
+use Rattle.type_table.specs.declared.shape.Shape.TheVariants.{Frozen, Optional, Maybe, MaybeNull, Refinement, Array, Map, Model, Safe}
+use Rattle.type_table.specs.declared.shape.Condition.{Condition}
+use Rattle.type_table.specs.declared.shape.Condition.TheVariants.{Min, Max, MinLength, MaxLength, StartsWith}
+use Rattle.type_table.specs.declared.shape.Property.{Property}
+use Rattle.type_table.specs.Table.{Table, Catalog, shape_at, properties_of, default_at}
+use Rattle.type_table.specs.Names.{named_by}
 use Rattle.snap_core.specs.declared.ident.Ident.{Ident}
-use Rattle.type_core.specs.Identifiers.{is_firm, ident_in, is_keyed}
-use Rattle.type_core.specs.Unions.{takes}
+use Rattle.type_table.specs.Identifiers.{is_firm, ident_in, is_keyed}
+use Rattle.type_table.specs.Unions.{takes}
 use Rattle.type_core.specs.Judging.{judged_by}
 
 -- the rule that isn't met, and where

@@ -4,11 +4,11 @@ use Rattle.snap_core.specs.Value.{Value}
 use Rattle.snap_core.specs.View.{view}
 use Rattle.snap_core.specs.declared.snap.Snap.{Snap}
 use Rattle.snap_core.specs.declared.number.TypeNo.{TypeNo}
-use Rattle.type_core.specs.declared.shape.Shape.TheVariants.{Optional, Union}
-use Rattle.type_core.specs.Table.{Table, Catalog, IsBegun, plan_of, shape_at, default_at}
-use Rattle.type_core.specs.Names.{LeadsTo}
-use Rattle.type_core.specs.Identifiers.{is_misplaced, misleads}
-use Rattle.type_core.specs.Unions.{are_apart}
+use Rattle.type_table.specs.declared.shape.Shape.TheVariants.{Optional, Union}
+use Rattle.type_table.specs.Table.{Table, Catalog, IsBegun, plan_of, shape_at, default_at}
+use Rattle.type_table.specs.Names.{LeadsTo}
+use Rattle.type_table.specs.Identifiers.{is_misplaced, misleads}
+use Rattle.type_table.specs.Unions.{are_apart}
 use Rattle.type_core.specs.Making.{maker_of}
 use Rattle.type_core.specs.Makes.{Makes, is_light}
 

@@ -4,18 +4,16 @@ ghost use Rattle.snap_core.specs.Value.{IsPlain, ArePlain, ArePlainMembers};
 ghost use Rattle.snap_core.specs.View.{view, items_view, fields_view};
 ghost use Rattle.std.specs.Option.{option_copied};
 ghost use Rattle.type_core.specs.Doubled as specs;
-ghost use Rattle.type_core.specs.Identifiers.{identifier_of, ident_under};
+ghost use Rattle.type_table.specs.Identifiers.{identifier_of, ident_under};
 ghost use Rattle.type_core.specs.Finding.{Finds};
 
-use crate::identifiers::identifier_under;
 use crate::judging::judged;
 use crate::seen::Seen;
-use crate::shape::{Property, Shape};
-use crate::tagged::Tagged;
 use crate::types::Types;
 use pointer_core::Pointer;
 use snap_core::{Field, ModelNo, Snap, TypeNo, position};
 use std::alloc::{AllocError, Global};
+use type_table::{Property, Shape, Tagged, identifier_under};
 
 /// Where the first model stands whose identifier an earlier one of the same model has, in a value of
 /// the root's model. A text and a number are never the same identifier, and identifiers of different

@@ -3,15 +3,13 @@ ghost use Rattle.std.specs.Prelude.{◌≡◌, ℕ, Option, None, if◌then◌el
 ghost use Rattle.std.specs.Option.{option_copied};
 ghost use Rattle.snap_core.specs.Value.{IsPlain};
 ghost use Rattle.snap_core.specs.View.{view};
-ghost use Rattle.type_core.specs.declared.shape.Shape.{Shape as Judge};
-ghost use Rattle.type_core.specs.Identifiers.{is_firm};
+ghost use Rattle.type_table.specs.declared.shape.Shape.{Shape as Judge};
+ghost use Rattle.type_table.specs.Identifiers.{is_firm};
 ghost use Rattle.type_core.specs.Judging.{judged_by, judged_step, shape_for};
 ghost use Rattle.type_core.specs.JudgingSteps.{judged_after};
 
-use crate::shape::Shape;
-use crate::tagged::Tagged;
-use crate::unions::choose;
 use snap_core::{Snap, TypeNo};
+use type_table::{Shape, Tagged, choose};
 
 /// Where a value is judged: at another type, or by this shape.
 enum Step<'a> {

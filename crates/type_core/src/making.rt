@@ -7,7 +7,7 @@ ghost use Rattle.snap_core.specs.Value.{Value, IsPlain, ArePlain, ArePlainMember
 ghost use Rattle.snap_core.specs.View.{view, items_view, fields_view};
 ghost use Rattle.type_core.specs.Making as specs;
 ghost use Rattle.type_core.specs.Making.{maker_of, making, entry_making};
-ghost use Rattle.type_core.specs.Identifiers.{ident_in};
+ghost use Rattle.type_table.specs.Identifiers.{ident_in};
 ghost use Rattle.type_core.specs.Judging.{judged_by};
 ghost use Rattle.type_core.specs.Makes.{MakesWithin};
 ghost use Rattle.type_core.specs.Made.{Answers, IfRefused, value_of, refused_as};
@@ -17,14 +17,12 @@ ghost use Rattle.type_core.specs.declared.making.MakeError.TheVariants.{Memory};
 use crate::judging::judged;
 use crate::limits::fits;
 use crate::records::{keyed_by, make_absent, make_entries, make_items, make_properties};
-use crate::scalars::takes;
-use crate::shape::{Condition, Shape};
-use crate::tagged::Tagged;
 use crate::types::Types;
 use pointer_core::{Pointer, Refusal, Rule};
 use snap_core::{Field, Snap, TypeNo};
 use std::alloc::{AllocError, Global};
 use thiserror::Error;
+use type_table::{Condition, Shape, Tagged, takes};
 
 /// The greatest weight of a value that is made.
 const MOST_WEIGHT: u32 = 1_048_576;

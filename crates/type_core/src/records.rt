@@ -2,22 +2,20 @@
 ghost use Rattle.std.specs.Prelude.{◌≡◌, [], ◌∷◌, ◌++◌, Ok, OnOk, decimal, if◌then◌else◌};
 ghost use Rattle.snap_core.specs.Value.{Value, null, IsPlain, ArePlain, ArePlainMembers};
 ghost use Rattle.snap_core.specs.View.{view, items_view, fields_view};
-ghost use Rattle.type_core.specs.Table.{default_at};
-ghost use Rattle.type_core.specs.Identifiers.{is_firm, ident_in};
+ghost use Rattle.type_table.specs.Table.{default_at};
+ghost use Rattle.type_table.specs.Identifiers.{is_firm, ident_in};
 ghost use Rattle.type_core.specs.Judging.{judged_by};
 ghost use Rattle.type_core.specs.Making as specs;
 ghost use Rattle.type_core.specs.Making.{Outcome};
 ghost use Rattle.type_core.specs.Made.{Answers};
 
-use crate::identifiers::{is_keyed, own_identifier};
 use crate::judging::judged;
 use crate::making::{MakeError, make_value, refused};
-use crate::shape::{Property, Shape};
-use crate::tagged::Tagged;
 use list_core::Parts;
 use pointer_core::{Refusal, Rule};
 use snap_core::{Field, Fields, Items, Snap, Txt, TypeNo, position};
 use std::alloc::{AllocError, Global};
+use type_table::{Property, Shape, Tagged, is_keyed, own_identifier};
 
 /// What a type makes where no value is given.
 pub fn make_absent(

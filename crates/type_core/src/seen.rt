@@ -4,7 +4,7 @@ ghost use Rattle.std.specs.List.{list_any};
 ghost use Rattle.type_core.specs.Seen.{key_view};
 ghost use Rattle.snap_core.specs.View.{view};
 ghost use Rattle.type_core.specs.Doubled as specs;
-ghost use Rattle.type_core.specs.Identifiers.{ident_of};
+ghost use Rattle.type_table.specs.Identifiers.{ident_of};
 ghost use Rattle.type_core.specs.Finding.{Finds};
 
 use indexmap::IndexSet;

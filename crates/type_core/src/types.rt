@@ -3,19 +3,16 @@ ghost use Rattle.std.specs.Prelude.{◌≡◌, ◌<◌, false, length, Some, IfS
 ghost use Rattle.std.specs.Option.{option_copied};
 ghost use Rattle.snap_core.specs.Value.{IsPlain};
 ghost use Rattle.snap_core.specs.View.{view};
-ghost use Rattle.type_core.specs.Table.{AreNamed, AreTyped, IsShapeOf, plan_of, shape_at, properties_of};
+ghost use Rattle.type_table.specs.Table.{AreNamed, AreTyped, IsShapeOf, plan_of, shape_at, properties_of};
 ghost use Rattle.type_core.specs.Sound.{IsSound};
-ghost use Rattle.type_core.specs.Identifiers.{identifier_of, is_reference};
-ghost use Rattle.type_core.specs.Targets.{target_of};
-ghost use Rattle.type_core.specs.Unions as unions;
+ghost use Rattle.type_table.specs.Identifiers.{identifier_of, is_reference};
+ghost use Rattle.type_table.specs.Targets.{target_of};
+ghost use Rattle.type_table.specs.Unions as unions;
 
-use crate::identifiers::{identifier_of, target_of};
-use crate::shape::{ModelType, Properties, Shape};
-use crate::tagged::Tagged;
-use crate::unions::chosen_at;
 use list_core::Parts;
 use snap_core::{ModelNo, Name, Snap, TypeNo};
 use std::marker::Model;
+use type_table::{ModelType, Properties, Shape, Tagged, chosen_at, identifier_of, target_of};
 
 /// The types of a schema. Contracts see a `Catalog`.
 #[derive(Debug, Drop)]
@@ -26,7 +23,7 @@ pub struct Types {
 }
 
 impl Model for Types {
-    ghost use Rattle.type_core.specs.Table.{Catalog};
+    ghost use Rattle.type_table.specs.Table.{Catalog};
     ghost use Rattle.type_core.specs.Sound.{IsSound};
     ghost use Rattle.std.specs.Coded.{codes};
     ghost use Rattle.snap_core.specs.contracts.snap.Snap as snap;
@@ -42,7 +39,7 @@ impl Model for Types {
 
 impl Types {
     /// Puts finished types together.
-    pub(crate) fn of(tagged: Tagged, root: ModelNo, defaults: Parts<Option<Snap>>) -> Types
+    pub fn of(tagged: Tagged, root: ModelNo, defaults: Parts<Option<Snap>>) -> Types
         requires { IsSound (record { table = tagged; root = root; defaults = defaults }) }
         ensures { result ≡ record { table = tagged; root = root; defaults = defaults } }
     {

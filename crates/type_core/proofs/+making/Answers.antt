@@ -3,7 +3,7 @@ use Rattle.std.proofs.lemmas.Option.{slice_get-get_or}
 use Rattle.snap_core.specs.declared.snap.Snap.{the_lemmas}
 use Rattle.snap_core.specs.Value.{IsPlain}
 use Rattle.snap_core.specs.View.{view, fields_view}
-use Rattle.type_core.specs.Identifiers.{ident_in}
+use Rattle.type_table.specs.Identifiers.{ident_in}
 use Rattle.type_core.specs.Judging.{judged_by}
 use Rattle.type_core.specs.Making.{absent, keyed, maker_of, fields_of, field_at, property_made}
 use Rattle.type_core.proofs.Steps.{plain_value, plain_item, property_made-present, property_made-absent}

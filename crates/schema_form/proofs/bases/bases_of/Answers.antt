@@ -1,7 +1,6 @@
-use Rattle.std.proofs.Common.{◌≡◌, List, Option, map, take, refl, sym, ◌∙◌, ap, subst}
+use Rattle.std.proofs.Common.{◌≡◌, List, Option, map, refl, sym, ◌∙◌, ap, subst}
 use Rattle.std.proofs.lemmas.List.{take_all}
 use Rattle.schema_form.specs.declared.bases.Base.{Base}
-use Rattle.schema_form.specs.declared.bases.Link.{Link}
 use Rattle.schema_form.specs.Bases.{AreBases, ended}
 use Rattle.schema_form.specs.Names.{most_names}
 use Rattle.schema_form.proofs.Linking.{AreBases-ended}

@@ -1,5 +1,5 @@
 use Rattle.std.proofs.Common.{refl, sym, ◌∙◌, ap, drop, ◌+◌}
-use Rattle.snap_core.specs.View.{view, fields_view}
+use Rattle.snap_core.specs.View.{fields_view}
 use Rattle.schema_form.specs.Faults.{under, member_faults, entry_faults}
 use Rattle.schema_form.specs.Layout.{with_entries}
 use Rattle.schema_form.proofs.Finding.{handed-on, fields-passed, fields-found}

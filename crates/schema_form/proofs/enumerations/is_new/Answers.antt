@@ -1,4 +1,4 @@
-use Rattle.std.proofs.Common.{not, sym, ◌∙◌, ap}
+use Rattle.std.proofs.Common.{not, ◌∙◌, ap}
 use Rattle.schema_form.proofs.Texts.{AreTexts-more}
 use Rattle.schema_form.proofs.enumerations.is_new.Goals as goal
 

@@ -5,7 +5,7 @@ use Rattle.schema_form.specs.Faults.{here, unless, under, is_among, texts_faults
 use Rattle.schema_form.specs.Layout.{texts_in}
 use Rattle.schema_form.proofs.Finding.{tells-here, Finds-ahead, Finds-equal, rest_has_all}
 use Rattle.schema_form.proofs.Laying.{pushed-step}
-use Rattle.schema_form.proofs.Texts.{texts-step, texts_in-step, texts-other, not-true}
+use Rattle.schema_form.proofs.Texts.{texts-step, texts_in-step, texts-other}
 use Rattle.schema_form.proofs.enumerations.read_each.Goals as goal
 
 pub returns-in_default-clause-finds : goal.returns-in_default-clause-finds

@@ -1,9 +1,9 @@
-use Rattle.std.proofs.Common.{◌≡◌, ◌++◌, Some, None, is_some, refl, sym, ◌∙◌, ap}
+use Rattle.std.proofs.Common.{◌++◌, is_some, sym, ◌∙◌, ap}
 use Rattle.snap_core.specs.View.{fields_view}
 use Rattle.pointer_core.specs.declared.schema_rule.SchemaRule.TheVariants.{Shape}
 use Rattle.schema_form.specs.Faults.{unless, word_faults}
 use Rattle.schema_form.specs.Names.{base_of}
-use Rattle.schema_form.proofs.Finding.{handed-on, tells-here, Tells-more, rest_has_all}
+use Rattle.schema_form.proofs.Finding.{handed-on, tells-here, Tells-more}
 use Rattle.schema_form.proofs.Linking.{known_base-word}
 use Rattle.schema_form.proofs.leaves.read_base_word.Goals as goal
 

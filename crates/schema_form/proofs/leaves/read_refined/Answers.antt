@@ -1,4 +1,4 @@
-use Rattle.std.proofs.Common.{◌≡◌, Some, get_or, codes, sym, ◌∙◌, ap, arith}
+use Rattle.std.proofs.Common.{◌≡◌, Some, get_or, codes, arith}
 use Rattle.std.proofs.lemmas.Result.{IfOk-at_ok}
 use Rattle.snap_core.specs.View.{view, fields_view}
 use Rattle.pointer_core.specs.declared.schema_rule.SchemaRule.TheVariants.{Shape}

@@ -1,7 +1,7 @@
 use Rattle.std.proofs.Common.{◌≡◌, length, slice_set, Some, ap, ◌∙◌, arith, length-set}
 use Rattle.std.proofs.lemmas.List.Elements.{All-pop}
-use Rattle.type_core.specs.Table.{Plan}
-use Rattle.type_core.proofs.Plans.{IsNoSmaller}
+use Rattle.type_table.specs.Table.{Plan}
+use Rattle.type_draft.proofs.Plans.{IsNoSmaller}
 use Rattle.schema_read.specs.Types.{kind_shape}
 use Rattle.schema_read.specs.Assembly.{IsKindOf}
 use Rattle.schema_read.proofs.Filling.{define_step}

@@ -1,7 +1,7 @@
 use Rattle.std.proofs.Common.{◌≡◌, ◌<◌, length, Some, None, All, refl, sym, ap, subst, ◌∙◌}
 use Rattle.std.specs.Prelude.{IsSome}
-use Rattle.type_core.specs.Table.{Plan, plan_of}
-use Rattle.type_core.proofs.Plans.{same_table}
+use Rattle.type_table.specs.Table.{Plan, plan_of}
+use Rattle.type_draft.proofs.Plans.{same_table}
 use Rattle.schema_read.specs.Types.{table_of, root_of}
 use Rattle.schema_read.specs.Schema.{at_root, at_type}
 use Rattle.schema_read.proofs.Faulty.{HasFault-expression}

@@ -2,7 +2,7 @@
 use Rattle.std.proofs.Common.{◌≡◌, Option, Some, None, option_map, sym, ap}
 use Rattle.std.proofs.lemmas.Option.{same_Some, none-some}
 use Rattle.std.specs.Prelude.{slice_get}
-use Rattle.type_core.specs.declared.shape.ModelType.{ModelType}
+use Rattle.type_table.specs.declared.shape.ModelType.{ModelType}
 use Rattle.snap_core.specs.declared.number.TypeNo.{TypeNo}
 use Rattle.top_call.specs.Link.{own_type}
 use Rattle.top_call.proofs.answer.root_type.Goals as goal

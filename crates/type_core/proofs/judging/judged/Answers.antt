@@ -1,9 +1,9 @@
 use Rattle.std.proofs.Common.{◌≡◌, ℕ, length, ◌-◌, ap, sym, ◌∙◌, arith}
 use Rattle.snap_core.specs.View.{view}
 use Rattle.type_core.specs.declared.judging.Step.TheVariants.{On, Ends}
-use Rattle.type_core.specs.Table.{Table}
+use Rattle.type_table.specs.Table.{Table}
 use Rattle.type_core.specs.Judging.{judged_within}
-use Rattle.type_core.proofs.Judged.{judged-next, judged-none}
+use Rattle.type_core.proofs.JudgedSteps.{judged-next, judged-none}
 use Rattle.type_core.proofs.judging.judged.Goals as goal
 
 pub loop-step-init : goal.loop-step-init

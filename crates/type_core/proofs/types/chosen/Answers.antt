@@ -1,7 +1,7 @@
 use Rattle.std.proofs.Common.{◌≡◌, ap, ◌∙◌}
 use Rattle.snap_core.specs.View.{view}
-use Rattle.type_core.specs.Table.{Table, shape_at}
-use Rattle.type_core.specs.Unions.{chosen_by}
+use Rattle.type_table.specs.Table.{Table, shape_at}
+use Rattle.type_table.specs.Unions.{chosen_by}
 use Rattle.type_core.proofs.Meeting.{chosen_by-taker}
 use Rattle.type_core.proofs.Sound.{IfSome-chosen_by}
 use Rattle.type_core.proofs.types.chosen.Goals as goal

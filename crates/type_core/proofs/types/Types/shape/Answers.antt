@@ -1,5 +1,5 @@
 use Rattle.std.proofs.Common.{◌≡◌, ap, ◌∙◌, subst}
-use Rattle.type_core.specs.Table.{Table, Catalog}
+use Rattle.type_table.specs.Table.{Table, Catalog}
 use Rattle.type_core.specs.Sound.{IsSound}
 use Rattle.type_core.proofs.Sound.{IsShapeOf-shape}
 use Rattle.type_core.proofs.types.Types.shape.Goals as goal

@@ -1,6 +1,0 @@
-use Rattle.snap_core.specs.View.{fields_view}
-use Rattle.snap_core.proofs.Keys.{AreKeyed-ascending}
-use Rattle.type_core.proofs.identifiers.identifier_under.Goals as goal
-
-pub find-requires : goal.find-requires
-find-requires c = AreKeyed-ascending (fields_view c.args.fields.now) c.requires.plain

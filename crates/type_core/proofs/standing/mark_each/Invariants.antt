@@ -1,8 +1,0 @@
--- Those marked so far, and those that are left, are all.
-use Rattle.std.proofs.Common.{◌≡◌, drop}
-use Rattle.type_core.specs.Identifiers.{types_in}
-use Rattle.type_core.specs.Marks.{marked}
-use Rattle.type_core.proofs.standing.mark_each.Given as goal
-
-abbrev pub invariant-loop-property : goal.invariant-loop-property
-invariant-loop-property l = marked l.marks (types_in (drop l.property-index l.properties)) ≡ marked l.initial.marks (types_in l.properties)

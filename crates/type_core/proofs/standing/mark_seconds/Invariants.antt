@@ -1,9 +1,0 @@
--- Those marked so far, and those of the models that are left, are all.
-use Rattle.std.proofs.Common.{◌≡◌, drop, replicate, length, false}
-use Rattle.type_core.specs.Identifiers.{second_types}
-use Rattle.type_core.specs.Marks.{marked}
-use Rattle.type_core.proofs.standing.mark_seconds.Given as goal
-
-abbrev pub invariant-loop-model : goal.invariant-loop-model
-invariant-loop-model l =
-    marked l.marks (second_types l.table (drop l.model-index l.model-items)) ≡ marked (replicate (length l.table.shapes) false) (second_types l.table l.model-items)

@@ -1,7 +1,0 @@
--- The models found so far, and those of the members that are left, are all of them.
-use Rattle.std.proofs.Common.{◌≡◌, ◌++◌, drop}
-use Rattle.type_core.specs.Unions as unions
-use Rattle.type_core.proofs.tags.models_of.Given as goal
-
-abbrev pub invariant-loop-t : goal.invariant-loop-t
-invariant-loop-t l = l.models ++ unions.models_of l.table (drop l.t-index l.members) ≡ unions.models_of l.table l.members

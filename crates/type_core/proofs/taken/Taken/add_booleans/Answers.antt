@@ -1,5 +1,0 @@
-use Rattle.type_core.proofs.TakenLemmas.{AreTaken-booleans}
-use Rattle.type_core.proofs.taken.Taken.add_booleans.Goals as goal
-
-pub returns : goal.returns
-returns c = AreTaken-booleans c.args.self.now

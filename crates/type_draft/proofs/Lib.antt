@@ -1,0 +1,5 @@
+pub mod Plans
+pub mod Loops
+pub mod LevelLemmas
+pub mod Rounds
+pub mod Drafts

@@ -1,0 +1,5 @@
+pub mod Faults
+pub mod Passes
+pub mod Defaulting
+pub mod Reaching
+pub mod Levels

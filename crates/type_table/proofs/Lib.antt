@@ -1,0 +1,5 @@
+pub mod Marking
+pub mod Named
+pub mod Tagging
+pub mod TakenLemmas
+pub mod ApartLemmas

@@ -1,0 +1,10 @@
+use Rattle.std.proofs.Common.{◌+◌, ◌-◌, ◌∙◌, sym}
+use Rattle.type_table.specs.Names.{named_within}
+use Rattle.type_table.proofs.Named.{named_within-step}
+use Rattle.type_table.proofs.table.Table.circled.Goals as goal
+
+pub loop-preserved : goal.loop-preserved
+loop-preserved c =
+    let l = c.loop in
+    let table = c.args.self.now in
+    sym (named_within-step table l.counter c.len-end.result l.at.0 c.loop-test.true ∙ c.in-Some.ensures (named_within table (c.len-end.result - (l.counter + 1)))) ∙ l.invariant

@@ -1,0 +1,11 @@
+pub mod Table
+pub mod Names
+pub mod Identifiers
+pub mod Unions
+pub mod Targets
+pub mod NameEnds
+pub mod Marks
+pub mod Standings
+pub mod ScalarSets
+pub mod Literals
+pub mod Taking
