@@ -280,14 +280,23 @@ writing_at types target way tree = record {
   next = tree.next;
 }
 
+-- the node of a tree at the end of a way
+pub record Site : Type 0 where
+  pub tree : Tree
+  pub way : List Turn
+
+abbrev pub written_at : Catalog → Target → Write → Site → Outcome Changed
+written_at types target write site =
+    provided (may_write target.running site.way site.tree.root) (name_for site.way target) rule.Protected (do
+      node ← or_refuse (part_at site.way site.tree.root) [] rule.Dead
+      changed ← node_written (writing_at types target site.way site.tree) target.place write node
+      Ok (placed site.way site.tree.root changed))
+
 -- what a write makes of a tree, before the tree is judged as a whole
 abbrev pub place_written : Catalog → Target → Write → Tree → Outcome Changed
 place_written types target write tree = do
   way ← or_refuse (way_to (node_no target.place) tree.root) [] rule.Dead
-  provided (may_write target.running way tree.root) (name_for way target) rule.Protected (do
-    node ← or_refuse (part_at way tree.root) [] rule.Dead
-    changed ← node_written (writing_at types target way tree) target.place write node
-    Ok (placed way tree.root changed))
+  written_at types target write (record { tree = tree; way = way })
 
 -- the whole tree is neither too heavy nor too deep
 abbrev pub limited_tree : Changed → Outcome Changed

@@ -1,5 +1,5 @@
 -- What the code's own answers stand for.
-use Rattle.std.specs.Prelude.{◌≡◌, ℕ, ◌+◌}
+use Rattle.std.specs.Prelude.{◌≡◌, ℕ, ◌+◌, List}
 use Rattle.edit_core.specs.Template.{Template, numbered, new_count}
 use Rattle.node_core.specs.View.{labelled, edits_of}
 use Rattle.tree_core.specs.declared.changed.Changed.{Changed}
@@ -9,6 +9,10 @@ use Rattle.tree_core.specs.Writing as specs_of
 use Rattle.tree_core.specs.declared.writing.Writing.{Writing}
 use Rattle.tree_core.specs.declared.writing.Entry.{Entry}
 use Rattle.tree_core.specs.declared.writing.Item.{Item}
+use Rattle.tree_core.specs.declared.write.Target.{Target}
+use Rattle.tree_core.specs.declared.write.Tree.{Tree}
+use Rattle.std.specs.Borrow.{Bor}
+use Rattle.std.specs.Option.{option_map}
 
 abbrev pub changed : Changed → specs.Changed
 changed c = record { value = labelled c.value; edits = edits_of c.edits; next = c.next }
@@ -27,3 +31,10 @@ entry e = record { node = labelled e.node.now; key = e.key.now }
 
 abbrev pub item : Item → specs_of.Item
 item a = record { node = labelled a.node.now; index = a.index }
+
+-- the place that is written, and the tree that it is written in
+abbrev pub target : Target → specs_of.Target
+target t = record { running = t.running.now; place = t.place.now; named = option_map (λ (p : Bor (List (List ℕ))). p.now) t.named }
+
+abbrev pub tree : Tree → specs_of.Tree
+tree t = record { root = labelled t.root.now; next = t.next }

@@ -1,14 +1,17 @@
 //! What a change makes of a labelled value.
-ghost use Rattle.std.specs.Prelude.{◌≡◌, [], ◌∷◌, ◌++◌, map, IfOk};
+ghost use Rattle.std.specs.Prelude.{◌≡◌, [], ◌∷◌, ◌++◌, map, length, IfOk};
 ghost use Rattle.list_core.specs.Outcome.{Gives};
-ghost use Rattle.node_core.specs.View.{labelled, way, turn, edit_of, edits_of};
+ghost use Rattle.node_core.specs.View.{labelled, way, turn, operation as operation_of, edit_of, edits_of};
 ghost use Rattle.edit_core.specs.Edit.{add, remove};
+ghost use Rattle.edit_core.specs.Logged.{after_at};
+ghost use Rattle.edit_core.specs.Template.{numbered, new_count};
 ghost use Rattle.tree_core.specs.Changed as specs;
-ghost use Rattle.tree_core.specs.Written.{changed};
+ghost use Rattle.tree_core.specs.Nodes.{CanPut};
+ghost use Rattle.tree_core.specs.Written.{changed, Added};
 
 use crate::stubs::New;
 use list_core::Parts;
-use node_core::{Labelled, LoggedEdit, Operation, Turn, Way};
+use node_core::{Labelled, LabelledField, LoggedEdit, Operation, Turn, Way};
 use std::alloc::{AllocError, Global};
 
 /// The value after a change, the edits that lead there, and the next number.
@@ -45,13 +48,19 @@ fn outward(
     ensures { IfOk result (λ es. edits_of es ≡ map (specs.outward (way place.now)) (edits_of edits)) }
 {
     let mut moved = Parts::new(alloc);
-    for LoggedEdit { way, operation } in edits.into_vec() {
-        moved.push(LoggedEdit {
-            way: joined(alloc, place, &way)?,
-            operation,
-        })?;
+    for edit in edits.as_slice() {
+        moved.push(moved_out(alloc, place, edit)?)?;
     }
     Ok(moved)
+}
+
+fn moved_out(alloc: Global, place: &[Turn], edit: &LoggedEdit) -> Result<LoggedEdit, AllocError>
+    ensures { IfOk result (λ e. edit_of e ≡ specs.outward (way place.now) (edit_of edit.now)) }
+{
+    Ok(LoggedEdit {
+        way: joined(alloc, place, &edit.way)?,
+        operation: edit.operation.clone_in(alloc)?,
+    })
 }
 
 /// A way behind another.
@@ -69,17 +78,12 @@ fn joined(alloc: Global, first: &[Turn], rest: &Way) -> Result<Way, AllocError>
 }
 
 /// A new part put in at a turn.
-pub fn part_added(
-    alloc: Global,
-    to: Turn,
-    new: New,
-    node: &Labelled,
-) -> Result<Changed, AllocError>
-    ensures { (t : Template) (next : ℕ) → Added t next new
-        → IfOk result (λ c. changed c ≡ specs.part_added (turn to) t next (labelled node.now)) }
+pub fn part_added(alloc: Global, to: Turn, new: New, node: &Labelled) -> Result<Changed, AllocError>
+    requires { CanPut (turn to) (labelled node.now) }
+    ensures { IfOk result (λ c. changed c ≡ specs.by_edit (record { way = turn to ∷ []; operation = add (labelled new.value) }) new.next (labelled node.now)) }
 {
-    let value = with_added(alloc, &to, &new.value, node)?;
     let New { value: part, next } = new;
+    let value = with_added(alloc, &to, part.clone_in(alloc)?, node)?;
     by_edit(alloc, to, Operation::Add(part), value, next)
 }
 
@@ -93,8 +97,14 @@ pub fn part_removed(
 ) -> Result<Changed, AllocError>
     ensures { IfOk result (λ c. changed c ≡ specs.part_removed (turn to) (labelled old.now) next (labelled node.now)) }
 {
-    let value = without(alloc, &to, node)?;
-    by_edit(alloc, to, Operation::Remove(old.clone_in(alloc)?), value, next)
+    let value = without(alloc, &to, old, node)?;
+    by_edit(
+        alloc,
+        to,
+        Operation::Remove(old.clone_in(alloc)?),
+        value,
+        next,
+    )
 }
 
 /// A change by one edit.
@@ -106,7 +116,10 @@ fn by_edit(
     next: usize,
 ) -> Result<Changed, AllocError>
     ensures { IfOk result (λ c. changed c ≡ record {
-        value = labelled value; edits = record { way = turn to ∷ []; operation = operation_of operation } ∷ []; next = next }) }
+      value = labelled value;
+      edits = record { way = turn to ∷ []; operation = operation_of operation } ∷ [];
+      next = next;
+    }) }
 {
     let mut way = Parts::new(alloc);
     way.push(to)?;
@@ -116,26 +129,58 @@ fn by_edit(
 }
 
 /// A node with a new part at a turn.
+#[tactic(auto, using(crate::proofs::Splicing::put_item, crate::proofs::Splicing::put_entry, crate::proofs::Splicing::items_seen, crate::proofs::Splicing::entries_seen))]
 fn with_added(
     alloc: Global,
     to: &Turn,
-    new: &Labelled,
+    new: Labelled,
     node: &Labelled,
 ) -> Result<Labelled, AllocError>
-    requires { CanTurn to.now node.now }
-    ensures { IfOk result (λ x. labelled x ≡ after_at (turn to.now) (add (labelled new.now)) (labelled node.now)) }
+    requires { CanPut (turn to.now) (labelled node.now) }
+    ensures { IfOk result (λ x. labelled x ≡ after_at (turn to.now) (add (labelled new)) (labelled node.now)) }
 {
-    match (node, to) {
-        (Labelled::Array(label, items), Turn::Item(i)) => {
-            let mut items = copy_items(alloc, items)?;
-            items.insert(*i, new.clone_in(alloc)?)?;
-            Ok(Labelled::Array(*label, items))
+    match (node.clone_in(alloc)?, to) {
+        (Labelled::Array(label, mut items), Turn::Item(i)) => {
+            items.insert(*i, new)?;
+            Ok(Labelled::Array(label, items))
         }
-        (Labelled::Record(label, fields), Turn::Entry(i, key)) => {
-            let mut fields = copy_fields(alloc, fields)?;
-            fields.insert(*i, LabelledField { key: key.clone_in()?, value: new.clone_in(alloc)? })?;
-            Ok(Labelled::Record(*label, fields))
+        (Labelled::Record(label, mut fields), Turn::Entry(i, key)) => {
+            fields.insert(
+                *i,
+                LabelledField {
+                    key: key.clone_in()?,
+                    value: new,
+                },
+            )?;
+            Ok(Labelled::Record(label, fields))
         }
-        _ => node.clone_in(alloc),
+        (copy, _) => Ok(copy),
+    }
+}
+
+/// A node without its part at a turn.
+#[tactic(auto, using(crate::proofs::Splicing::cut_item, crate::proofs::Splicing::cut_entry, crate::proofs::Splicing::no_item_cut, crate::proofs::Splicing::no_entry_cut, crate::proofs::Splicing::items_seen, crate::proofs::Splicing::entries_seen))]
+fn without(
+    alloc: Global,
+    to: &Turn,
+    old: &Labelled,
+    node: &Labelled,
+) -> Result<Labelled, AllocError>
+    ensures { IfOk result (λ x. labelled x ≡ after_at (turn to.now) (remove (labelled old.now)) (labelled node.now)) }
+{
+    match (node.clone_in(alloc)?, to) {
+        (Labelled::Array(label, mut items), Turn::Item(i)) => {
+            if *i < items.len() {
+                items.remove(*i);
+            }
+            Ok(Labelled::Array(label, items))
+        }
+        (Labelled::Record(label, mut fields), Turn::Entry(i, _)) => {
+            if *i < fields.len() {
+                fields.remove(*i);
+            }
+            Ok(Labelled::Record(label, fields))
+        }
+        (copy, _) => Ok(copy),
     }
 }

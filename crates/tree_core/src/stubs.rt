@@ -13,32 +13,53 @@ ghost use Rattle.tree_core.specs.Written.{Added};
 
 use crate::changed::Changed;
 use edit_core::Kind;
-use node_core::{Labelled, LoggedEdit, Turn, Way};
 use list_core::Parts;
+use node_core::{Labelled, LoggedEdit, Turn, Way};
 use snap_core::{ModelNo, Name, NodeNo, Snap, TypeNo};
 use std::alloc::{AllocError, Global};
 use type_core::Types;
 
-pub fn reconcile(alloc: Global, types: &Types, t: TypeNo, old: &Labelled, new: &Snap, next: usize) -> Result<Changed, AllocError>
+pub fn reconcile(
+    alloc: Global,
+    types: &Types,
+    t: TypeNo,
+    old: &Labelled,
+    new: &Snap,
+    next: usize,
+) -> Result<Changed, AllocError>
     requires { IsPlain (view new.now) }
     ensures { IfOk result (λ w. changed w ≡ specs.value_set (typing_of types.now.table) (setting t.0 (node.labelled old.now) (view new.now) next)) }
 {
     Err(AllocError)
 }
 
-pub fn set_item(alloc: Global, types: &Types, t: TypeNo, old: &Labelled, new: &Snap, next: usize) -> Result<Changed, AllocError>
+pub fn set_item(
+    alloc: Global,
+    types: &Types,
+    t: TypeNo,
+    old: &Labelled,
+    new: &Snap,
+    next: usize,
+) -> Result<Changed, AllocError>
     requires { IsPlain (view new.now) }
     ensures { IfOk result (λ w. changed w ≡ specs.one_item_set (typing_of types.now.table) (setting t.0 (node.labelled old.now) (view new.now) next)) }
 {
     Err(AllocError)
 }
 
+#[derive(Debug, Drop)]
 pub struct New {
     pub value: Labelled,
     pub next: usize,
 }
 
-pub fn label_new(alloc: Global, types: &Types, t: TypeNo, new: &Snap, next: usize) -> Result<New, AllocError>
+pub fn label_new(
+    alloc: Global,
+    types: &Types,
+    t: TypeNo,
+    new: &Snap,
+    next: usize,
+) -> Result<New, AllocError>
     requires { IsPlain (view new.now) }
     ensures { IfOk result (λ w. Added (template (by_first (typing_of types.now.table)) t.0 None (view new.now)) next w) }
 {
