@@ -3,6 +3,8 @@
 
 mod call;
 mod calls;
+mod recording;
 mod tree;
+mod writing;
 
 pub use tree::{Mark, Tree};
