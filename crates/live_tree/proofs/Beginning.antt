@@ -22,6 +22,7 @@ use Rattle.tree_core.specs.TypesTyping.{kind_for, typing_of, root_type}
 use Rattle.tree_core.specs.State.{State, patches_of}
 use Rattle.tree_core.specs.Recorded.{state_of, new_tree, IsTreeOf}
 use Rattle.tree_core.proofs.Keeping.{IsFresh, fresh}
+use Rattle.live_tree.specs.declared.call.Call.{Call}
 use Rattle.live_tree.specs.Contents.{Contents, state}
 use Rattle.live_tree.specs.Inside.{IsWell, IsKept, contents}
 
@@ -68,3 +69,12 @@ module _ (types : Catalog) (v : Value) (plain : IsPlain v) (root : Labelled) (ne
   new_typed =
       let P : edits.Labelled → Type 0 = λ x. IsLabelledBy (typing_of types.table) (root_type types) x in
       record { labelled = subst P (sym value) (labelled-anew (typing_of types.table) (suited types.table) 0 (root_type types) v); numbered = new_is_well.0 }
+
+  pub kept_by : (cs : List Call) (ps : List Patch) → cs ≡ [] → ps ≡ [] → IsKept (contents root next cs) cs ps
+  kept_by cs ps e f =
+      let P : List Call → Type 0 = λ cs. IsKept (contents root next cs) cs [] in
+      let Q : List Patch → Type 0 = λ ps. IsKept (contents root next cs) cs ps in
+      subst Q (sym f) (subst P (sym e) new_kept)
+
+  pub typed_by : (cs : List Call) → cs ≡ [] → IsTreeOf types (state (contents root next cs))
+  typed_by cs e = let P : List Call → Type 0 = λ cs. IsTreeOf types (state (contents root next cs)) in subst P (sym e) new_typed

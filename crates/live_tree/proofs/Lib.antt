@@ -1,5 +1,5 @@
 pub mod Counting
 pub mod RollingBack
-pub mod Recording
-pub mod Writing
+pub mod KeptCalls
+pub mod Changes
 pub mod Beginning

@@ -52,6 +52,15 @@ module _ (root : Labelled) (next : ℕ) (calls : List Call) (patches : List Patc
             ∙ sym (map-append patch_of_logged _ (edits_of es)));
       }
 
+  -- likewise, of what the calls of the code left
+  pub kept_by : (root2 value2 : Labelled) (cs : List Call) (ps : List Patch) → root2 ≡ root → value2 ≡ value → cs ≡ calls ++ record { edits = es; before = root2 } ∷ []
+      → ps ≡ patches ++ map patch_of_logged (edits_of es) → IsKept (contents value2 after cs) cs ps
+  kept_by root2 value2 cs ps same new e f =
+      let P : List Call → Type 0 = λ cs. IsKept (contents value after cs) cs (patches ++ map patch_of_logged (edits_of es)) in
+      let Q : List Patch → Type 0 = λ ps. IsKept (contents value after cs) cs ps in
+      let R : Labelled → Type 0 = λ v. IsKept (contents v after cs) cs ps in
+      subst R (sym new) (subst Q (sym f) (subst P (sym (e ∙ ap (λ (r : Labelled). calls ++ record { edits = es; before = r } ∷ []) same)) kept_more))
+
 -- a change with edits is one call more, and one without leaves all as it is
 recorded-some : (value : Labelled) (after : ℕ) (call : List LoggedEdit) (s : State) → (call ≡ [] → ⊥)
     → record { tree = labelled value; next = after; calls = edits_of call ∷ s.calls } ≡ recorded (labelled value) (edits_of call) after s
