@@ -12,18 +12,18 @@ use Rattle.edit_core.specs.declared.kind.Kind.TheVariants as kind
 use Rattle.edit_core.specs.Labelled as edits
 use Rattle.edit_core.specs.Labelled.{leaf, bare}
 use Rattle.edit_core.specs.Labelling.{IsSuited, SuitsKind, IsLabelledBy}
-use Rattle.edit_core.specs.Numbers.{AreNumbered, times}
+use Rattle.edit_core.specs.Numbers.{times}
 use Rattle.edit_core.specs.Template.{Template, template, numbered, new_count}
 use Rattle.edit_core.specs.Matching.{by_first}
 use Rattle.edit_core.proofs.Labelling.{labelled-anew}
 use Rattle.node_core.specs.declared.labelled.Labelled.{Labelled}
 use Rattle.node_core.specs.View.{labelled}
 use Rattle.tree_core.specs.TypesTyping.{kind_for, typing_of, root_type}
-use Rattle.tree_core.specs.State.{State, patches_of}
+use Rattle.tree_core.specs.State.{State}
 use Rattle.tree_core.specs.Recorded.{state_of, new_tree, IsTreeOf}
 use Rattle.tree_core.proofs.Keeping.{IsFresh, fresh}
 use Rattle.live_tree.specs.declared.call.Call.{Call}
-use Rattle.live_tree.specs.Contents.{Contents, state}
+use Rattle.live_tree.specs.Contents.{state}
 use Rattle.live_tree.specs.Inside.{IsWell, IsKept, contents}
 
 one : (k l : Kind) → ◌≡◌ {A = Option Kind} (Some k) (Some l) → k ≡ l

@@ -1,18 +1,16 @@
 -- One call more is kept.
-use Rattle.std.proofs.Common.{◌≡◌, ℕ, ◌≤◌, List, [], ◌∷◌, ◌++◌, length, map, reverse, refl, sym, ap, subst, ◌∙◌, arith}
+use Rattle.std.proofs.Common.{◌≡◌, ℕ, ◌≤◌, List, [], ◌∷◌, ◌++◌, map, reverse, refl, sym, ap, subst, ◌∙◌, arith}
 use Rattle.std.proofs.lemmas.List.{map-append, reverse-append}
-use Rattle.snap_core.specs.Value.{IsPlain}
 use Rattle.patch_core.specs.declared.patch.Patch.{Patch}
 use Rattle.edit_core.specs.Labelled as edits
 use Rattle.edit_core.specs.Labelled.{bare}
 use Rattle.edit_core.specs.Logged.{before_log, patch_of_logged}
-use Rattle.edit_core.specs.Numbers.{AreNumbered}
 use Rattle.node_core.specs.declared.labelled.Labelled.{Labelled}
 use Rattle.node_core.specs.declared.edit.LoggedEdit.{LoggedEdit}
 use Rattle.node_core.specs.View.{labelled, edits_of}
 use Rattle.tree_core.specs.State.{State, Calls, patches_of, recorded}
 use Rattle.live_tree.specs.declared.call.Call.{Call}
-use Rattle.live_tree.specs.Contents.{Contents, state}
+use Rattle.live_tree.specs.Contents.{state}
 use Rattle.live_tree.specs.Inside.{IsWell, AreKept, IsKept, contents, edits_in}
 
 -- numbers that are below one are below a later one

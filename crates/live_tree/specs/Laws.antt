@@ -1,5 +1,5 @@
 -- What holds of marks.
-use Rattle.std.specs.Prelude.{◌≡◌, ◌≢◌, ℕ, List, [], ◌∷◌, ◌++◌}
+use Rattle.std.specs.Prelude.{◌≡◌, ◌≢◌, ℕ, [], ◌∷◌, ◌++◌}
 use Rattle.edit_core.specs.Labelled.{Labelled}
 use Rattle.edit_core.specs.Logged.{before_log}
 use Rattle.tree_core.specs.State.{State, Calls, mark_of, rolled_back}

@@ -1,4 +1,4 @@
-use Rattle.std.proofs.Common.{◌≡◌, ◌∷◌, [], map, sym, ap, ◌∙◌, ◌++◌, arith}
+use Rattle.std.proofs.Common.{◌∷◌, [], map, sym, ap, ◌∙◌, ◌++◌, arith}
 use Rattle.node_core.specs.View.{labelled, edits_of}
 use Rattle.edit_core.specs.Logged.{patch_of_logged}
 use Rattle.live_tree.proofs.KeptCalls.{kept_by}

@@ -1,4 +1,4 @@
-use Rattle.std.proofs.Common.{◌≡◌, ℕ, sym, ap, ◌∙◌}
+use Rattle.std.proofs.Common.{ℕ, sym, ap, ◌∙◌}
 use Rattle.node_core.specs.View.{labelled, edits_of}
 use Rattle.tree_core.specs.State.{State, rolled_back, mark_of}
 use Rattle.live_tree.specs.Contents.{state}
