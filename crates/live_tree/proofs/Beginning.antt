@@ -18,7 +18,7 @@ use Rattle.edit_core.specs.Matching.{by_first}
 use Rattle.edit_core.proofs.Labelling.{labelled-anew}
 use Rattle.node_core.specs.declared.labelled.Labelled.{Labelled}
 use Rattle.node_core.specs.View.{labelled}
-use Rattle.tree_core.specs.TypesTyping.{kind_for, typing_of, root_type}
+use Rattle.tree_core.specs.TypesTyping.{kind_by, typing_of, root_type}
 use Rattle.tree_core.specs.State.{State}
 use Rattle.tree_core.specs.Recorded.{state_of, new_tree, IsTreeOf}
 use Rattle.tree_core.proofs.Keeping.{IsFresh, fresh}
@@ -30,7 +30,7 @@ one : (k l : Kind) → ◌≡◌ {A = Option Kind} (Some k) (Some l) → k ≡ l
 one k l h = cc
 
 -- kinds are those of what they are made of
-suits : (v : Value) (s : Option Shape) (k : Kind) → kind_for v s ≡ Some k → SuitsKind v k
+suits : (v : Value) (s : Option Shape) (k : Kind) → kind_by s v ≡ Some k → SuitsKind v k
 suits (list a ps) (Some (shape.Array u)) k h = let P : Kind → Type 0 = λ k. SuitsKind (list a ps) k in subst P (one (kind.Array u) k h) tt
 suits (dict a ms) (Some (shape.Map u)) k h = let P : Kind → Type 0 = λ k. SuitsKind (dict a ms) k in subst P (one (kind.Map u) k h) tt
 suits (dict a ms) (Some (shape.Model m)) k h = let P : Kind → Type 0 = λ k. SuitsKind (dict a ms) k in subst P (one (kind.Model m) k h) tt
