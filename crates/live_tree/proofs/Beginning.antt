@@ -30,14 +30,14 @@ one : (k l : Kind) → ◌≡◌ {A = Option Kind} (Some k) (Some l) → k ≡ l
 one k l h = cc
 
 -- kinds are those of what they are made of
-suits : (v : Value) (s : Option Shape) (k : Kind) → kind_by s v ≡ Some k → SuitsKind v k
-suits (list a ps) (Some (shape.Array u)) k h = let P : Kind → Type 0 = λ k. SuitsKind (list a ps) k in subst P (one (kind.Array u) k h) tt
-suits (dict a ms) (Some (shape.Map u)) k h = let P : Kind → Type 0 = λ k. SuitsKind (dict a ms) k in subst P (one (kind.Map u) k h) tt
-suits (dict a ms) (Some (shape.Model m)) k h = let P : Kind → Type 0 = λ k. SuitsKind (dict a ms) k in subst P (one (kind.Model m) k h) tt
-suits v s k h = absurd (cc)
+suits : (s : Option Shape) (v : Value) (k : Kind) → kind_by s v ≡ Some k → SuitsKind v k
+suits (Some (shape.Array u)) (list a ps) k h = let P : Kind → Type 0 = λ k. SuitsKind (list a ps) k in subst P (one (kind.Array u) k h) tt
+suits (Some (shape.Map u)) (dict a ms) k h = let P : Kind → Type 0 = λ k. SuitsKind (dict a ms) k in subst P (one (kind.Map u) k h) tt
+suits (Some (shape.Model m)) (dict a ms) k h = let P : Kind → Type 0 = λ k. SuitsKind (dict a ms) k in subst P (one (kind.Model m) k h) tt
+suits s v k h = absurd (cc)
 
 pub suited : (table : Table) → IsSuited (typing_of table)
-suited table t v k h = suits v (judged_by table v t) k h
+suited table t v k h = suits (judged_by table v t) v k h
 
 -- the labels of a new value
 pub new-well : (next after : ℕ) (new : Template) (v : Value) (x : edits.Labelled) → IsFresh next new v → x ≡ numbered next new → after ≡ next + new_count new → IsPlain v → IsWell after x
