@@ -1,5 +1,5 @@
 //! What types say of values that they take, and of the parts of models.
-ghost use Rattle.std.specs.Prelude.{◌≡◌, length, option_map};
+ghost use Rattle.std.specs.Prelude.{◌≡◌, length, slice_get, option_map};
 ghost use Rattle.std.specs.Option.{option_copied};
 ghost use Rattle.snap_core.specs.Value.{IsPlain};
 ghost use Rattle.snap_core.specs.View.{view};
@@ -29,6 +29,17 @@ impl Types {
     {
         let (types, _) = self.inside();
         judged(types, given, t)
+    }
+
+    /// A model's own type; none where there is no such model.
+    pub fn own_type(&self, m: ModelNo) -> Option<TypeNo>
+        ensures { result ≡ option_map (λ model. model.own) (slice_get self.now.table.models m.0) }
+    {
+        let (types, _) = self.inside();
+        match types.table().models.get(m.0) {
+            Some(model) => Some(model.own),
+            None => None,
+        }
     }
 
     /// The type of a model's property; none where there is no such model or no such property.

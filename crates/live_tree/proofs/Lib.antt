@@ -1,0 +1,5 @@
+pub mod Counting
+pub mod RollingBack
+pub mod KeptCalls
+pub mod Changes
+pub mod Beginning

@@ -1,0 +1,15 @@
+pub mod TypesTyping
+pub mod State
+pub mod Outcome
+pub mod Changed
+pub mod Nodes
+pub mod Reading
+pub mod Settling
+pub mod Listing
+pub mod Write
+pub mod Writing
+pub mod Errors
+pub mod Answers
+pub mod Written
+pub mod Asking
+pub mod Recorded
