@@ -6,6 +6,7 @@ pub mod Nodes
 pub mod Reading
 pub mod Settling
 pub mod Listing
+pub mod Asking
 pub mod Write
 pub mod Writing
 pub mod Errors

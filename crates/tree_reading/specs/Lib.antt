@@ -1,0 +1,5 @@
+pub mod Searching
+pub mod Seeking
+pub mod Leading
+pub mod Settled
+pub mod Held
