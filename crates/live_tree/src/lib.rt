@@ -2,6 +2,7 @@
 #![tactic(auto)]
 
 mod call;
+mod calls;
 mod tree;
 
 pub use tree::{Mark, Tree};

@@ -1,11 +1,14 @@
 ghost use Rattle.std.specs.Prelude.{◌≡◌, ◌-◌, length};
 ghost use Rattle.tree_core.specs.State.{mark_of, rolled_back, without_newest, committed, patches_of};
+ghost use Rattle.std.specs.Option.{option_map};
+ghost use Rattle.edit_core.specs.Typing.{label_of};
 ghost use Rattle.live_tree.specs.Contents.{state};
 
 use crate::call::Call;
 use list_core::RoomyParts;
 use node_core::Labelled;
 use patch_core::Patches;
+use snap_core::NodeNo;
 use std::marker::Model;
 
 /// A point in a tree's log to which it can be rolled back.
@@ -72,6 +75,16 @@ impl Tree {
         if let Some(Call { edits, before }) = self.calls.pop() {
             self.patches.truncate(self.patches.len() - edits.len());
             self.root = before;
+        }
+    }
+
+    /// The number of the root's node.
+    pub(crate) fn root_number(&self) -> Option<NodeNo>
+        ensures { option_map (λ n. n.0) result ≡ option_map (λ l. l.number) (label_of (state self.now).tree) }
+    {
+        match &self.root {
+            Labelled::Leaf(_) => None,
+            Labelled::Array(label, _) | Labelled::Record(label, _) => Some(label.number),
         }
     }
 

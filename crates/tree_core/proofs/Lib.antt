@@ -1,2 +1,4 @@
 mod Office
 mod Examples
+pub mod Splicing
+pub mod Answering

@@ -1,5 +1,5 @@
 -- The nodes of a tree: their parts, and what is on the way to them.
-use Rattle.std.specs.Prelude.{ℕ, zero, suc, List, [], ◌∷◌, Bool, false, ◌||◌, ◌==◌, Option, Some, None, unwrap_or, if◌then◌else◌}
+use Rattle.std.specs.Prelude.{ℕ, zero, suc, ◌≤◌, length, List, [], ◌∷◌, Bool, false, ◌||◌, ◌==◌, Option, Some, None, unwrap_or, if◌then◌else◌}
 use Rattle.std.specs.Option.{option_map}
 use Rattle.std.specs.Ordering.{nat_cmp, is_lt}
 use Rattle.std.specs.Cmp.Lexicographic.{slice_cmp}
@@ -9,7 +9,7 @@ use Rattle.edit_core.specs.declared.kind.Kind.{Kind}
 use Rattle.edit_core.specs.Labelled.{Label, Labelled, Entry, many, keyed, items_in, entries_in}
 use Rattle.edit_core.specs.Edit.{Turn, to_item, to_entry}
 use Rattle.edit_core.specs.Typing.{Typing, label_of, kind_in}
-use Rattle.edit_core.specs.Ways.{part_at}
+use Rattle.edit_core.specs.Ways.{part_at_turn}
 
 -- where an entry with a key stands, or would go: behind those with lower keys
 abbrev pub place_in : List ℕ → List Entry → ℕ
@@ -28,7 +28,7 @@ is_running running None = false
 abbrev pub may_write : List NodeNo → List Turn → Labelled → Bool
 may_write running [] x = is_running running (label_of x)
 may_write running (turn ∷ way) x =
-    is_running running (label_of x) || unwrap_or (option_map (λ part. may_write running way part) (part_at (turn ∷ []) x)) false
+    is_running running (label_of x) || unwrap_or (option_map (λ part. may_write running way part) (part_at_turn turn x)) false
 
 -- the key of a turn; an item has none
 abbrev pub key_of : Turn → List ℕ
@@ -56,4 +56,9 @@ part_type typing node key = type_by typing (kind_in (label_of node)) key
 abbrev pub type_at : Typing → ℕ → List Turn → Labelled → ℕ
 type_at typing t [] x = t
 type_at typing t (turn ∷ way) x =
-    unwrap_or (option_map (λ part. type_at typing (part_type typing x (key_of turn)) way part) (part_at (turn ∷ []) x)) t
+    unwrap_or (option_map (λ part. type_at typing (part_type typing x (key_of turn)) way part) (part_at_turn turn x)) t
+
+-- a new part can be put in at a turn
+abbrev pub CanPut : Turn → Labelled → Type 0
+CanPut (to_item i) x = i ≤ length (items_of x)
+CanPut (to_entry i key) x = i ≤ length (entries_of x)

@@ -33,12 +33,8 @@ typing_of table = record {
 }
 
 -- a model's own type, and the type of a document
-abbrev pub own_of : Option ModelType → ℕ
-own_of (Some model) = model.own.0
-own_of None = 0
-
 abbrev pub model_type : Catalog → ModelNo → ℕ
-model_type types m = own_of (slice_get types.table.models m.0)
+model_type types m = unwrap_or (option_map (λ (model : ModelType). model.own.0) (slice_get types.table.models m.0)) 0
 
 abbrev pub root_type : Catalog → ℕ
 root_type types = model_type types types.root

@@ -8,9 +8,7 @@ use Rattle.snap_core.specs.declared.number.NodeNo.{NodeNo}
 use Rattle.pointer_core.specs.Path.{Path}
 use Rattle.pointer_core.specs.declared.refusal.Rule.TheVariants as rule
 use Rattle.type_table.specs.Table.{Catalog}
-use Rattle.type_table.specs.Identifiers.{ident_in}
-use Rattle.type_core.specs.Judging.{judged_by}
-use Rattle.type_core.specs.Making.{Outcome, making, maker_of, limited, keyed as under_key, is_within}
+use Rattle.type_core.specs.Making.{Outcome, making, entry_making, is_within}
 use Rattle.type_core.specs.Doubled.{identifiers_of, doubled_of}
 use Rattle.edit_core.specs.declared.kind.Kind.{Kind}
 use Rattle.edit_core.specs.declared.kind.Kind.TheVariants as kind
@@ -104,12 +102,15 @@ node_making types (kind.Model m) t v = making types (model_type types m) (Some v
 node_making types kind t v =
     provided (is_kind ((typing_of types.table).kind_of t v) kind) [] rule.Mistyped (making types t (Some v))
 
+abbrev pub whole_set : Writing → Kind → Value → Labelled → Outcome Changed
+whole_set w kind v node = unless_fixed w.node (other_identifier (typing_in w) kind (bare node) v) (do
+  made ← seen_from w.node (node_making w.types kind w.type v)
+  Ok (value_set (typing_in w) (setting (own_type w.types kind w.type) node made w.next)))
+
 abbrev pub whole_written : Writing → Kind → Write → Labelled → Outcome Changed
 whole_written w kind write node = do
   v ← snapshot_in w.named write
-  unless_fixed w.node (other_identifier (typing_in w) kind (bare node) v) (do
-    made ← seen_from w.node (node_making w.types kind w.type v)
-    Ok (value_set (typing_in w) (setting (own_type w.types kind w.type) node made w.next)))
+  whole_set w kind v node
 
 -- A property of a model.
 
@@ -146,20 +147,18 @@ abbrev pub entry_set : Writing → Entry → Labelled → Value → Changed
 entry_set w e old made =
     placed (turn_to e ∷ []) e.node (value_set (typing_in w) (setting (entry_type w e) old made w.next))
 
+abbrev pub property_set : Writing → Entry → Labelled → Value → Outcome Changed
+property_set w e old v = provided (not (is_renaming w e (bare old) v)) (entry_path w e) rule.Fixed (do
+  made ← seen_from (entry_path w e) (making w.types (entry_type w e) (Some v))
+  Ok (entry_set w e old made))
+
 abbrev pub property_written : Writing → Entry → Write → Outcome Changed
 property_written w e write = do
   old ← or_refuse (held_at e) w.named rule.Path
   v ← property_in w.named write
-  provided (not (is_renaming w e (bare old) v)) (entry_path w e) rule.Fixed (do
-    made ← seen_from (entry_path w e) (making w.types (entry_type w e) (Some v))
-    Ok (entry_set w e old made))
+  property_set w e old v
 
 -- A value of a map.
-
--- what a map's type makes of a value under a key
-abbrev pub entry_making : Catalog → ℕ → List ℕ → Value → Outcome Value
-entry_making types t key v =
-    limited (under_key key (ident_in types.table (judged_by types.table v t) v) (maker_of types.table types.defaults v t))
 
 -- in the place of the held value, or as a new entry
 abbrev pub key_set : Writing → Entry → Value → Option Labelled → Changed
@@ -172,12 +171,15 @@ key_put w e v = do
   made ← seen_from (entry_path w e) (entry_making w.types (entry_type w e) e.key v)
   Ok (key_set w e made (held_at e))
 
+abbrev pub key_removed : Writing → Entry → Outcome Changed
+key_removed w e = do
+  old ← or_refuse (held_at e) w.named rule.Path
+  Ok (part_removed (turn_to e) old w.next e.node)
+
 abbrev pub key_written : Writing → Entry → Write → Outcome Changed
 key_written w e (set v) = key_put w e v
 key_written w e (insert v) = key_put w e v
-key_written w e remove = do
-  old ← or_refuse (held_at e) w.named rule.Path
-  Ok (part_removed (turn_to e) old w.next e.node)
+key_written w e remove = key_removed w e
 
 -- An item of an array.
 
@@ -278,14 +280,23 @@ writing_at types target way tree = record {
   next = tree.next;
 }
 
+-- the node of a tree at the end of a way
+pub record Site : Type 0 where
+  pub tree : Tree
+  pub way : List Turn
+
+abbrev pub written_at : Catalog → Target → Write → Site → Outcome Changed
+written_at types target write site =
+    provided (may_write target.running site.way site.tree.root) (name_for site.way target) rule.Protected (do
+      node ← or_refuse (part_at site.way site.tree.root) [] rule.Dead
+      changed ← node_written (writing_at types target site.way site.tree) target.place write node
+      Ok (placed site.way site.tree.root changed))
+
 -- what a write makes of a tree, before the tree is judged as a whole
 abbrev pub place_written : Catalog → Target → Write → Tree → Outcome Changed
 place_written types target write tree = do
   way ← or_refuse (way_to (node_no target.place) tree.root) [] rule.Dead
-  provided (may_write target.running way tree.root) (name_for way target) rule.Protected (do
-    node ← or_refuse (part_at way tree.root) [] rule.Dead
-    changed ← node_written (writing_at types target way tree) target.place write node
-    Ok (placed way tree.root changed))
+  written_at types target write (record { tree = tree; way = way })
 
 -- the whole tree is neither too heavy nor too deep
 abbrev pub limited_tree : Changed → Outcome Changed

@@ -1,14 +1,17 @@
 //! What a change makes of a labelled value.
-ghost use Rattle.std.specs.Prelude.{◌≡◌, [], ◌∷◌, ◌++◌, map, IfOk};
+ghost use Rattle.std.specs.Prelude.{◌≡◌, [], ◌∷◌, ◌++◌, map, length, IfOk};
 ghost use Rattle.list_core.specs.Outcome.{Gives};
-ghost use Rattle.node_core.specs.View.{labelled, way, turn, edit_of, edits_of};
+ghost use Rattle.node_core.specs.View.{labelled, way, turn, operation as operation_of, edit_of, edits_of};
 ghost use Rattle.edit_core.specs.Edit.{add, remove};
+ghost use Rattle.edit_core.specs.Logged.{after_at};
+ghost use Rattle.edit_core.specs.Template.{numbered, new_count};
 ghost use Rattle.tree_core.specs.Changed as specs;
-ghost use Rattle.tree_core.specs.Written.{changed};
+ghost use Rattle.tree_core.specs.Nodes.{CanPut};
+ghost use Rattle.tree_core.specs.Written.{changed, Added};
 
-use crate::stubs::with_part;
+use crate::stubs::New;
 use list_core::Parts;
-use node_core::{Labelled, LoggedEdit, Operation, Turn, Way};
+use node_core::{Labelled, LabelledField, LoggedEdit, Operation, Turn, Way};
 use std::alloc::{AllocError, Global};
 
 /// The value after a change, the edits that lead there, and the next number.
@@ -30,7 +33,7 @@ pub fn placed(
 {
     let Changed { value, edits, next } = part;
     Ok(Changed {
-        value: with_part(alloc, whole, place, value)?,
+        value: whole.with_part(alloc, place, value)?,
         edits: outward(alloc, place, edits)?,
         next,
     })
@@ -45,13 +48,19 @@ fn outward(
     ensures { IfOk result (λ es. edits_of es ≡ map (specs.outward (way place.now)) (edits_of edits)) }
 {
     let mut moved = Parts::new(alloc);
-    for LoggedEdit { way, operation } in edits.into_vec() {
-        moved.push(LoggedEdit {
-            way: joined(alloc, place, &way)?,
-            operation,
-        })?;
+    for edit in edits.as_slice() {
+        moved.push(moved_out(alloc, place, edit)?)?;
     }
     Ok(moved)
+}
+
+fn moved_out(alloc: Global, place: &[Turn], edit: &LoggedEdit) -> Result<LoggedEdit, AllocError>
+    ensures { IfOk result (λ e. edit_of e ≡ specs.outward (way place.now) (edit_of edit.now)) }
+{
+    Ok(LoggedEdit {
+        way: joined(alloc, place, &edit.way)?,
+        operation: edit.operation.clone_in(alloc)?,
+    })
 }
 
 /// A way behind another.
@@ -66,4 +75,112 @@ fn joined(alloc: Global, first: &[Turn], rest: &Way) -> Result<Way, AllocError>
         whole.push(turn.clone_in()?)?;
     }
     Ok(whole)
+}
+
+/// A new part put in at a turn.
+pub fn part_added(alloc: Global, to: Turn, new: New, node: &Labelled) -> Result<Changed, AllocError>
+    requires { CanPut (turn to) (labelled node.now) }
+    ensures { IfOk result (λ c. changed c ≡ specs.by_edit (record { way = turn to ∷ []; operation = add (labelled new.value) }) new.next (labelled node.now)) }
+{
+    let New { value: part, next } = new;
+    let value = with_added(alloc, &to, part.clone_in(alloc)?, node)?;
+    by_edit(alloc, to, Operation::Add(part), value, next)
+}
+
+/// A part taken out at a turn.
+pub fn part_removed(
+    alloc: Global,
+    to: Turn,
+    old: &Labelled,
+    next: usize,
+    node: &Labelled,
+) -> Result<Changed, AllocError>
+    ensures { IfOk result (λ c. changed c ≡ specs.part_removed (turn to) (labelled old.now) next (labelled node.now)) }
+{
+    let value = without(alloc, &to, old, node)?;
+    by_edit(
+        alloc,
+        to,
+        Operation::Remove(old.clone_in(alloc)?),
+        value,
+        next,
+    )
+}
+
+/// A change by one edit.
+fn by_edit(
+    alloc: Global,
+    to: Turn,
+    operation: Operation,
+    value: Labelled,
+    next: usize,
+) -> Result<Changed, AllocError>
+    ensures { IfOk result (λ c. changed c ≡ record {
+      value = labelled value;
+      edits = record { way = turn to ∷ []; operation = operation_of operation } ∷ [];
+      next = next;
+    }) }
+{
+    let mut way = Parts::new(alloc);
+    way.push(to)?;
+    let mut edits = Parts::new(alloc);
+    edits.push(LoggedEdit { way, operation })?;
+    Ok(Changed { value, edits, next })
+}
+
+/// A node with a new part at a turn.
+#[tactic(auto, using(crate::proofs::Splicing::put_item, crate::proofs::Splicing::put_entry, crate::proofs::Splicing::items_seen, crate::proofs::Splicing::entries_seen))]
+fn with_added(
+    alloc: Global,
+    to: &Turn,
+    new: Labelled,
+    node: &Labelled,
+) -> Result<Labelled, AllocError>
+    requires { CanPut (turn to.now) (labelled node.now) }
+    ensures { IfOk result (λ x. labelled x ≡ after_at (turn to.now) (add (labelled new)) (labelled node.now)) }
+{
+    match (node.clone_in(alloc)?, to) {
+        (Labelled::Array(label, mut items), Turn::Item(i)) => {
+            items.insert(*i, new)?;
+            Ok(Labelled::Array(label, items))
+        }
+        (Labelled::Record(label, mut fields), Turn::Entry(i, key)) => {
+            fields.insert(
+                *i,
+                LabelledField {
+                    key: key.clone_in()?,
+                    value: new,
+                },
+            )?;
+            Ok(Labelled::Record(label, fields))
+        }
+        (copy, _) => Ok(copy),
+    }
+}
+
+/// A node without its part at a turn.
+#[tactic(auto, using(crate::proofs::Splicing::cut_item, crate::proofs::Splicing::cut_entry, crate::proofs::Splicing::no_item_cut, crate::proofs::Splicing::no_entry_cut, crate::proofs::Splicing::items_seen, crate::proofs::Splicing::entries_seen))]
+fn without(
+    alloc: Global,
+    to: &Turn,
+    old: &Labelled,
+    node: &Labelled,
+) -> Result<Labelled, AllocError>
+    ensures { IfOk result (λ x. labelled x ≡ after_at (turn to.now) (remove (labelled old.now)) (labelled node.now)) }
+{
+    match (node.clone_in(alloc)?, to) {
+        (Labelled::Array(label, mut items), Turn::Item(i)) => {
+            if *i < items.len() {
+                items.remove(*i);
+            }
+            Ok(Labelled::Array(label, items))
+        }
+        (Labelled::Record(label, mut fields), Turn::Entry(i, _)) => {
+            if *i < fields.len() {
+                fields.remove(*i);
+            }
+            Ok(Labelled::Record(label, fields))
+        }
+        (copy, _) => Ok(copy),
+    }
 }

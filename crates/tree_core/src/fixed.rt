@@ -68,7 +68,10 @@ fn gives_other(name: &Name, node: &Labelled, given: &Snap) -> bool
     requires { IsPlain (view given.now) }
     ensures { result ≡ specs.are_others (field_at name.now (bare (labelled node.now))) (field_at name.now (view given.now)) }
 {
-    match (entry_at(entries_of(node), name.text()), field_of(given, name)) {
+    match (
+        entry_at(entries_of(node), name.text()),
+        field_of(given, name),
+    ) {
         (Some(Labelled::Leaf(Snap::Text(old))), Some(Snap::Text(new))) => old.text() != new.text(),
         (Some(Labelled::Leaf(Snap::Int(old))), Some(Snap::Int(new))) => old != new,
         _ => false,

@@ -13,5 +13,6 @@ mod whole;
 mod write;
 mod writing;
 
+pub use changed::Changed;
 pub use error::TreeError;
 pub use place::{Change, Place};

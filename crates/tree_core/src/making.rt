@@ -1,8 +1,10 @@
 //! Making the values that are written.
 ghost use Rattle.std.specs.Prelude.{◌≡◌, Some, IfOk};
-ghost use Rattle.snap_core.specs.Value.{IsPlain};
+ghost use Rattle.snap_core.specs.Value.{Value, IsPlain};
 ghost use Rattle.snap_core.specs.View.{view};
-ghost use Rattle.type_core.specs.Making.{making, entry_making};
+ghost use Rattle.type_core.specs.Making.{Outcome, making, entry_making};
+ghost use Rattle.type_core.specs.Made as made;
+ghost use Rattle.edit_core.specs.Typing.{is_kind};
 ghost use Rattle.tree_core.specs.Answers.{Answers};
 ghost use Rattle.tree_core.specs.Outcome.{seen_from};
 ghost use Rattle.tree_core.specs.Writing.{node_making};
@@ -28,10 +30,17 @@ pub fn make_at(
     ensures made { Answers view result (seen_from place.now (making types.now t.0 (Some (view value.now)))) }
     ensures plain { IfOk result (λ s. IsPlain (view s)) }
 {
-    match make(alloc, types, t, Some(value)) {
-        Ok(made) => Ok(made),
-        Err(error) => Err(at_place(place, error)),
-    }
+    let made = make_given(alloc, types, t, value);
+    at_place(place, made)
+}
+
+#[tactic(auto, using(crate::proofs::Answering::answers_made))]
+fn make_given(alloc: Global, types: &Types, t: TypeNo, value: &Snap) -> Result<Snap, MakeError>
+    requires { IsPlain (view value.now) }
+    ensures made { made.Answers view result (making types.now t.0 (Some (view value.now))) }
+    ensures plain { IfOk result (λ s. IsPlain (view s)) }
+{
+    make(alloc, types, t, Some(value))
 }
 
 /// What a map with values of a type makes of a value under a key, at its place.
@@ -47,22 +56,19 @@ pub fn make_entry_at(
     ensures made { Answers view result (seen_from place.now (entry_making types.now t.0 key.now (view value.now))) }
     ensures plain { IfOk result (λ s. IsPlain (view s)) }
 {
-    match make_entry(alloc, types, t, key, value) {
-        Ok(made) => Ok(made),
-        Err(error) => Err(at_place(place, error)),
-    }
+    let made = make_entry(alloc, types, t, key, value);
+    at_place(place, made)
 }
 
-/// Why a value isn't made, as it reads from a place.
-fn at_place(place: &Pointer, error: MakeError) -> TreeError
-    ensures { result ≡ result }
+/// What making came to, as it reads from a place.
+fn at_place(place: &Pointer, made: Result<Snap, MakeError>) -> Result<Snap, TreeError>
+    ensures made { (outcome : Outcome Value) → made.Answers view made outcome → Answers view result (seen_from place.now outcome) }
+    ensures plain { IfOk made (λ s. IsPlain (view s)) → IfOk result (λ s. IsPlain (view s)) }
 {
-    match error {
-        MakeError::Memory => TreeError::Memory,
-        MakeError::Refused(Refusal { path, rule }) => match joined(place, &path) {
-            Ok(path) => refuse(path, rule),
-            Err(_) => TreeError::Memory,
-        },
+    match made {
+        Ok(made) => Ok(made),
+        Err(MakeError::Memory) => Err(TreeError::Memory),
+        Err(MakeError::Refused(Refusal { path, rule })) => Err(refuse(joined(place, &path)?, rule)),
     }
 }
 
@@ -83,10 +89,21 @@ pub fn make_node(
     match kind {
         Kind::Model(m) => make_at(alloc, types, model_type(types, m), value, node),
         _ => {
-            if !makes_kind(types, kind, t, value) {
+            if !is_kind(kind_of(types, t, value), kind) {
                 return Err(refuse(node.clone_in()?, Rule::Mistyped));
             }
             make_at(alloc, types, t, value, node)
         }
+    }
+}
+
+/// Whether a kind is another.
+fn is_kind(found: Option<Kind>, kind: Kind) -> bool
+    ensures { result ≡ is_kind found kind }
+{
+    match (found, kind) {
+        (Some(Kind::Model(m)), Kind::Model(n)) => m.0 == n.0,
+        (Some(Kind::Array(t)), Kind::Array(u)) | (Some(Kind::Map(t)), Kind::Map(u)) => t.0 == u.0,
+        _ => false,
     }
 }

@@ -1,8 +1,7 @@
 //! The parts of nodes.
-ghost use Rattle.std.specs.Prelude.{◌≡◌};
+ghost use Rattle.std.specs.Prelude.{◌≡◌, ◌≤◌, length, IfOk};
 ghost use Rattle.std.specs.Option.{option_copied, option_map};
 ghost use Rattle.edit_core.specs.Template.{entry_at};
-ghost use Rattle.list_core.specs.Outcome.{Gives};
 ghost use Rattle.node_core.specs.View.{labelled, items, fields, turn};
 ghost use Rattle.tree_core.specs.Nodes as specs;
 ghost use Rattle.tree_core.specs.TypesTyping.{typing_of};
@@ -35,7 +34,8 @@ pub fn entries_of(node: &Labelled) -> &[LabelledField]
 
 /// Where an entry with a key stands, or would go.
 pub fn place_in(entries: &[LabelledField], key: &str) -> usize
-    ensures { result ≡ specs.place_in key.now (fields entries.now) }
+    ensures place { result ≡ specs.place_in key.now (fields entries.now) }
+    ensures within { result ≤ length entries.now }
 {
     let mut at = 0;
     for entry in entries {
@@ -61,7 +61,8 @@ pub fn entry_at<'a>(entries: &'a [LabelledField], key: &str) -> Option<&'a Label
 
 /// The turn from a node to its entry with a key.
 pub fn turn_to(alloc: Global, node: &Labelled, key: &str) -> Result<Turn, AllocError>
-    ensures { Gives result result }
+    ensures turn { IfOk result (λ t. turn t ≡ specs.to_key key.now (specs.entries_of (labelled node.now))) }
+    ensures room { IfOk result (λ t. specs.CanPut (turn t) (labelled node.now)) }
 {
     let at = place_in(entries_of(node), key);
     Ok(Turn::Entry(at, Txt::copy(alloc, key)?))

@@ -6,30 +6,10 @@ ghost use Rattle.node_core.specs.View as node;
 ghost use Rattle.tree_core.specs.Writing.{place_tokens};
 
 use crate::place::Place;
-use node_core::Turn;
+use node_core::{Turn, pointer_of};
 use pointer_core::{Pointer, Token};
 use snap_core::Txt;
 use std::alloc::{AllocError, Global};
-
-/// The path that a way is.
-pub fn path_of(alloc: Global, way: &[Turn]) -> Result<Pointer, AllocError>
-    ensures { Gives result (map token_of (node.way way.now)) }
-{
-    let mut path = Pointer::new(alloc);
-    for turn in way {
-        path.push(token_of(alloc, turn)?)?;
-    }
-    Ok(path)
-}
-
-fn token_of(alloc: Global, turn: &Turn) -> Result<Token, AllocError>
-    ensures { Gives result (token_of (node.turn turn.now)) }
-{
-    match turn {
-        Turn::Item(index) => index_token(alloc, *index),
-        Turn::Entry(_, key) => key.clone_in(),
-    }
-}
 
 fn index_token(alloc: Global, index: usize) -> Result<Token, AllocError>
     ensures { Gives result (decimal index) }
@@ -70,7 +50,7 @@ pub fn joined(first: &Pointer, rest: &Pointer) -> Result<Pointer, AllocError>
 pub fn path_of_place(alloc: Global, way: &[Turn], place: &Place) -> Result<Pointer, AllocError>
     ensures { Gives result (map token_of (node.way way.now) ++ place_tokens place.now) }
 {
-    let node = path_of(alloc, way)?;
+    let node = pointer_of(alloc, way)?;
     match place {
         Place::Whole(_) => Ok(node),
         Place::Prop(_, name) => under(alloc, &node, name.text()),

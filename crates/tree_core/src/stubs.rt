@@ -3,7 +3,6 @@ ghost use Rattle.std.specs.Option.{option_copied, option_map};
 ghost use Rattle.snap_core.specs.Value.{IsPlain};
 ghost use Rattle.snap_core.specs.View.{view};
 ghost use Rattle.node_core.specs.View as node;
-ghost use Rattle.tree_core.specs.Ways as ways;
 ghost use Rattle.tree_core.specs.TypesTyping.{typing_of};
 ghost use Rattle.edit_core.specs.Template.{template, numbered, new_count};
 ghost use Rattle.edit_core.specs.Matching.{by_first};
@@ -14,50 +13,53 @@ ghost use Rattle.tree_core.specs.Written.{Added};
 
 use crate::changed::Changed;
 use edit_core::Kind;
-use node_core::{Labelled, LoggedEdit, Turn, Way};
 use list_core::Parts;
+use node_core::{Labelled, LoggedEdit, Turn, Way};
 use snap_core::{ModelNo, Name, NodeNo, Snap, TypeNo};
 use std::alloc::{AllocError, Global};
 use type_core::Types;
 
-pub fn way_to(alloc: Global, root: &Labelled, n: NodeNo) -> Result<Option<Way>, AllocError>
-    ensures { IfOk result (λ way. option_map node.way way ≡ ways.way_to n.0 (node.labelled root.now)) }
-{
-    Err(AllocError)
-}
-
-pub fn part_at<'a>(root: &'a Labelled, way: &[Turn]) -> Option<&'a Labelled>
-    ensures { option_map node.labelled (option_copied result) ≡ ways.part_at (node.way way.now) (node.labelled root.now) }
-{
-    None
-}
-
-pub fn with_part(alloc: Global, root: &Labelled, way: &[Turn], new: Labelled) -> Result<Labelled, AllocError>
-    ensures { IfOk result (λ after. node.labelled after ≡ ways.with_part (node.way way.now) (node.labelled new) (node.labelled root.now)) }
-{
-    Err(AllocError)
-}
-
-pub fn reconcile(alloc: Global, types: &Types, t: TypeNo, old: &Labelled, new: &Snap, next: usize) -> Result<Changed, AllocError>
+pub fn reconcile(
+    alloc: Global,
+    types: &Types,
+    t: TypeNo,
+    old: &Labelled,
+    new: &Snap,
+    next: usize,
+) -> Result<Changed, AllocError>
     requires { IsPlain (view new.now) }
     ensures { IfOk result (λ w. changed w ≡ specs.value_set (typing_of types.now.table) (setting t.0 (node.labelled old.now) (view new.now) next)) }
 {
     Err(AllocError)
 }
 
-pub fn set_item(alloc: Global, types: &Types, t: TypeNo, old: &Labelled, new: &Snap, next: usize) -> Result<Changed, AllocError>
+pub fn set_item(
+    alloc: Global,
+    types: &Types,
+    t: TypeNo,
+    old: &Labelled,
+    new: &Snap,
+    next: usize,
+) -> Result<Changed, AllocError>
     requires { IsPlain (view new.now) }
     ensures { IfOk result (λ w. changed w ≡ specs.one_item_set (typing_of types.now.table) (setting t.0 (node.labelled old.now) (view new.now) next)) }
 {
     Err(AllocError)
 }
 
+#[derive(Debug, Drop)]
 pub struct New {
     pub value: Labelled,
     pub next: usize,
 }
 
-pub fn label_new(alloc: Global, types: &Types, t: TypeNo, new: &Snap, next: usize) -> Result<New, AllocError>
+pub fn label_new(
+    alloc: Global,
+    types: &Types,
+    t: TypeNo,
+    new: &Snap,
+    next: usize,
+) -> Result<New, AllocError>
     requires { IsPlain (view new.now) }
     ensures { IfOk result (λ w. Added (template (by_first (typing_of types.now.table)) t.0 None (view new.now)) next w) }
 {

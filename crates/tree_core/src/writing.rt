@@ -26,6 +26,7 @@ use type_core::Types;
 
 /// What a write to a node goes by: the types, the node's path, the type of its place, the path that the written
 /// place was named by, and the next number.
+#[derive(Drop)]
 pub struct Writing<'a> {
     pub types: &'a Types,
     pub node: &'a Pointer,
@@ -35,12 +36,14 @@ pub struct Writing<'a> {
 }
 
 /// A part of a node that is written, by its key.
+#[derive(Drop)]
 pub struct Entry<'a> {
     pub node: &'a Labelled,
     pub key: &'a str,
 }
 
 /// An item that is written, by its index.
+#[derive(Drop)]
 pub struct Item<'a> {
     pub node: &'a Labelled,
     pub index: usize,
@@ -112,7 +115,9 @@ fn write_property(
 {
     match entry_at(entries_of(entry.node), entry.key) {
         Some(old) => match change {
-            Change::Set(value) | Change::Insert(value) => set_property(alloc, by, entry, old, value),
+            Change::Set(value) | Change::Insert(value) => set_property(
+                alloc, by, entry, old, value,
+            ),
             Change::Remove => Err(refuse(by.named.clone_in()?, Rule::Operation)),
         },
         None => Err(refuse(by.named.clone_in()?, Rule::Path)),
@@ -170,12 +175,7 @@ fn write_key(
     }
 }
 
-fn put_key(
-    alloc: Global,
-    by: &Writing,
-    entry: &Entry,
-    value: &Snap,
-) -> Result<Changed, TreeError>
+fn put_key(alloc: Global, by: &Writing, entry: &Entry, value: &Snap) -> Result<Changed, TreeError>
     requires { IsPlain (view value.now) }
     ensures { Answers changed result (specs.key_put (goes_by by.now) (entry entry.now) (view value.now)) }
 {
@@ -240,12 +240,7 @@ fn replace_item(
     }
 }
 
-fn insert_item(
-    alloc: Global,
-    by: &Writing,
-    item: &Item,
-    value: &Snap,
-) -> Result<Changed, TreeError>
+fn insert_item(alloc: Global, by: &Writing, item: &Item, value: &Snap) -> Result<Changed, TreeError>
     requires { IsPlain (view value.now) }
     ensures { Answers changed result (specs.item_inserted (goes_by by.now) (item item.now) (view value.now)) }
 {

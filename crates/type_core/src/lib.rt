@@ -5,6 +5,7 @@ mod doubling;
 mod judging;
 mod limits;
 mod making;
+mod parts;
 mod records;
 mod sameness;
 mod seen;
