@@ -12,5 +12,4 @@ pub mod Writing
 pub mod Errors
 pub mod Answers
 pub mod Written
-pub mod Asking
 pub mod Recorded
