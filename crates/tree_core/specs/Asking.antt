@@ -22,7 +22,7 @@ use Rattle.tree_core.specs.declared.place.Place.{Place}
 use Rattle.tree_core.specs.declared.place.Place.TheVariants as place
 use Rattle.tree_core.specs.TypesTyping.{typing_of, root_type}
 use Rattle.tree_core.specs.Nodes.{type_at}
-use Rattle.tree_core.specs.Reading.{way_along, resolved, path_to}
+use Rattle.tree_core.specs.Reading.{way_along, resolved, node_of, path_to}
 use Rattle.tree_core.specs.Listing.{node, entry_place, Named, named_by}
 use Rattle.tree_core.specs.Outcome.{◌>>=◌, or_refuse, seen_from}
 
@@ -32,6 +32,15 @@ shown path root = do
   way ← or_refuse (way_along path root) path rule.Path
   part ← or_refuse (part_at way root) path rule.Path
   Ok (bare part)
+
+-- the value of a node, and its path
+abbrev pub node_shown : ℕ → Labelled → Outcome Value
+node_shown n root = do
+  x ← or_refuse (node_of n root) [] rule.Dead
+  Ok (bare x)
+
+abbrev pub node_path : ℕ → Labelled → Outcome Path
+node_path n root = or_refuse (path_to n root) [] rule.Dead
 
 -- The type that a type is, seen through names, optionals and maybes: one step, and within so many.
 abbrev pub inner_step : (ℕ → ℕ) → ℕ → Option Shape → ℕ

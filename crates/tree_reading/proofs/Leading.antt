@@ -10,7 +10,7 @@ use Rattle.node_core.specs.declared.labelled.LabelledField.{LabelledField}
 use Rattle.node_core.specs.View.{labelled, items, fields}
 use Rattle.node_core.proofs.Views.{labelled-Array, labelled-Record}
 use Rattle.tree_core.specs.Reading.{way_along}
-use Rattle.tree_core.specs.Listing.{Named, named_by, named_below}
+use Rattle.tree_core.specs.Listing.{named_by, named_below}
 use Rattle.tree_reading.specs.Leading.{along_item, along_entry}
 
 pub along-array : (token : List ℕ) (path : Path) (l : Label) (xs : List Labelled)

@@ -4,3 +4,6 @@ pub mod InnerTypes
 pub mod Leading
 pub mod NamedPlaces
 pub mod SettlingMoves
+pub mod ClearingSteps
+pub mod SettledPlain
+pub mod SettlingLaws

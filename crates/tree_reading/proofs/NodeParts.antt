@@ -1,5 +1,5 @@
 -- The parts of nodes, as the tree's words see them.
-use Rattle.std.proofs.Common.{◌≡◌, ℕ, suc, ◌+◌, ◌<◌, ◌≤◌, List, [], ◌∷◌, length, get_or, drop, drop-cons, add-one, Bool, true, false, Option, Some, None, refl, sym, ◌∙◌, ap, arith}
+use Rattle.std.proofs.Common.{◌≡◌, ℕ, ◌<◌, ◌≤◌, List, [], ◌∷◌, length, get_or, Bool, true, false, Option, Some, None, refl, sym, ◌∙◌, ap}
 use Rattle.std.specs.Prelude.{slice_get, if◌then◌else◌}
 use Rattle.std.specs.Option.{option_map}
 use Rattle.std.specs.Str.{bytes_eq}
@@ -14,7 +14,7 @@ use Rattle.node_core.specs.declared.labelled.Label.{Label}
 use Rattle.node_core.specs.declared.labelled.Labelled.{Labelled}
 use Rattle.node_core.specs.declared.labelled.Labelled
 use Rattle.node_core.specs.declared.labelled.LabelledField.{LabelledField}
-use Rattle.node_core.specs.View.{label, labelled, field, items, fields}
+use Rattle.node_core.specs.View.{labelled, field, items, fields}
 use Rattle.node_core.proofs.Views.{labelled-Array, labelled-Record, field-is}
 use Rattle.snap_core.specs.declared.number.TypeNo.{TypeNo}
 use Rattle.tree_core.specs.declared.place.Place.TheVariants.{Prop, Item, Key}

@@ -1,5 +1,5 @@
 -- A search part by part finds what the way to a node leads to.
-use Rattle.std.proofs.Common.{◌≡◌, ℕ, zero, suc, ◌+◌, ◌==◌, min, List, [], ◌∷◌, length, Bool, true, false, Option, Some, None, refl, sym, ◌∙◌, ap, arith}
+use Rattle.std.proofs.Common.{◌≡◌, ℕ, suc, ◌+◌, ◌==◌, min, List, [], length, Bool, true, false, Option, Some, None, refl, sym, ◌∙◌, ap, arith}
 use Rattle.std.specs.Prelude.{slice_get, if◌then◌else◌}
 use Rattle.std.specs.Option.{option_map, option_and_then}
 use Rattle.edit_core.specs.Labelled.{Label, Labelled, Branches, Entries, leaf, many, keyed, no_branches, branch, no_entries, entry, items_in, entries_in}
@@ -15,10 +15,10 @@ IsFound x None (Some node) = ⊥
 IsFound x (Some way) None = ⊥
 IsFound x (Some way) (Some node) = part_at way x ≡ Some node
 
-found-itself : (b : Bool) (x : Labelled) (way : Option (List Turn)) (node : Option Labelled) → IsFound x way node
-    → IsFound x (if b then Some [] else way) (if b then Some x else node)
-found-itself true x way node found = refl
-found-itself false x way node found = found
+found-itself : (b : Bool) (x : Labelled) (way : Option (List Turn)) (y : Option Labelled) → IsFound x way y
+    → IsFound x (if b then Some [] else way) (if b then Some x else y)
+found-itself true x way y same = refl
+found-itself false x way y same = same
 
 joined : (node x : Labelled) (turn : Turn) (way other : Option (List Turn)) (y z : Option Labelled)
     → part_at_turn turn node ≡ Some x → IsFound x way y → IsFound node other z → IsFound node (led_by turn way other) (found_or y z)

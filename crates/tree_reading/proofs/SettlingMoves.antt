@@ -1,14 +1,14 @@
 -- The edits of settling with what stands around them: they lead to the settled value.
-use Rattle.std.proofs.Common.{◌≡◌, ℕ, suc, ◌+◌, ◌≤◌, List, [], ◌∷◌, ◌++◌, length, map, Bool, true, false, not, if◌then◌else◌, Option, Some, None, refl, sym, ◌∙◌, ap, subst, arith, length-append, append_assoc}
+use Rattle.std.proofs.Common.{◌≡◌, ℕ, ◌+◌, List, [], ◌∷◌, ◌++◌, length, map, Bool, true, false, if◌then◌else◌, Option, Some, None, refl, sym, ◌∙◌, ap, subst, arith, length-append, append_assoc}
 use Rattle.std.proofs.lemmas.List.{map-append}
-use Rattle.snap_core.specs.Value.{null, boolean, integer, text, list, dict}
+use Rattle.snap_core.specs.Value.{null, list, dict}
 use Rattle.snap_core.specs.declared.number.ModelNo.{ModelNo}
 use Rattle.edit_core.specs.declared.kind.Kind.{Kind}
 use Rattle.edit_core.specs.declared.kind.Kind.TheVariants as kind
-use Rattle.edit_core.specs.Labelled.{Label, Labelled, Branches, Entries, Entry, leaf, many, keyed, no_branches, branch, no_entries, entry, branches, entries, items_in, entries_in, bare, bare_items, bare_fields}
+use Rattle.edit_core.specs.Labelled.{Label, Labelled, Branches, Entries, Entry, leaf, many, keyed, no_branches, branch, no_entries, entry, branches, entries, items_in, entries_in, bare_items, bare_fields}
 use Rattle.edit_core.specs.Edit.{Edit, whole, within, at_item, at_entry, to_item, to_entry, remove, replace, moved_to_item, moved_to_entry}
-use Rattle.edit_core.specs.Logged.{LoggedEdit, logged, behind}
-use Rattle.edit_core.proofs.Leading.{Conditions, FineIn, FineItems, FineEntries, LeadsIn, one_item, one_entry, RunIn, no_edits, one_edit}
+use Rattle.edit_core.specs.Logged.{logged, behind}
+use Rattle.edit_core.proofs.Leading.{Conditions, FineIn, FineItems, FineEntries, one_item, one_entry, RunIn, no_edits, one_edit}
 use Rattle.edit_core.proofs.Runs.{joined_in, one, lifted, lifted_entry, shifted, shifted_entry}
 use Rattle.tree_core.specs.TypesTyping.{type_under}
 use Rattle.tree_core.specs.Settling.{Settling, is_loose, safe_target, leads_nowhere, item_type, item_removal, item_removals, cleared, behind_cleared, settling_edits, items_settling, entries_settling}

@@ -1,5 +1,5 @@
 -- Where a token leads from a node: to an item, or to an entry.
-use Rattle.std.specs.Prelude.{ℕ, List, [], ◌∷◌, length, slice_get, Option}
+use Rattle.std.specs.Prelude.{ℕ, List, ◌∷◌, length, slice_get, Option}
 use Rattle.std.specs.Option.{option_map, option_and_then}
 use Rattle.pointer_core.specs.Path.{Path}
 use Rattle.patch_core.specs.Place.{index_below}

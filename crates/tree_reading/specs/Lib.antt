@@ -3,3 +3,4 @@ pub mod Seeking
 pub mod Leading
 pub mod Settled
 pub mod Held
+pub mod Clearing

@@ -1,6 +1,6 @@
 -- What settling leaves of a value, and what holds of it.
-use Rattle.std.specs.Prelude.{◌≡◌, ℕ, List, [], ◌∷◌, ◌++◌, map, Bool, if◌then◌else◌}
-use Rattle.snap_core.specs.Value.{null}
+use Rattle.std.specs.Prelude.{◌≡◌, ℕ, List, [], ◌∷◌, ◌++◌, map, if◌then◌else◌}
+use Rattle.snap_core.specs.Value.{null, IsPlain}
 use Rattle.patch_core.specs.Fits.{LeadsTo}
 use Rattle.edit_core.specs.declared.kind.Kind.{Kind}
 use Rattle.edit_core.specs.declared.kind.Kind.TheVariants as kind
@@ -40,6 +40,8 @@ pub record SettlingLeads (s : Settling) (x : Labelled) : Type 0 where
   pub before : before_log (settling_edits s x) (settled_value s x) ≡ x
   -- its patches fit in turn, and lead there without labels
   pub patches : HasPaths (bare x) → LeadsTo (map patch_of_logged (settling_edits s x)) (bare x) (bare (settled_value s x))
+  -- it stays plain
+  pub plain : IsPlain (bare x) → IsPlain (bare (settled_value s x))
   -- no node is new
   pub numbered : (next : ℕ) → AreNumbered next x → AreNumbered next (settled_value s x)
 

@@ -1,5 +1,5 @@
 //! The places of a tree, and what they hold.
-ghost use Rattle.std.specs.Prelude.{◌≡◌, IfOk, slice_get};
+ghost use Rattle.std.specs.Prelude.{◌≡◌, IfOk, IsSome, Some};
 ghost use Rattle.std.specs.Option.{option_copied, option_map};
 ghost use Rattle.snap_core.specs.View.{view};
 ghost use Rattle.edit_core.specs.Labelled.{bare};
@@ -78,22 +78,11 @@ pub fn entry_at<'a>(parts: &'a [LabelledField], key: &str) -> Option<&'a Labelle
     None
 }
 
-/// The value at a place, without labels; none where it is no place of the tree.
-pub fn raw(alloc: Global, root: &Labelled, place: &Place) -> Result<Option<Snap>, AllocError>
-    ensures { IfOk result (λ value. option_map view value ≡ option_map bare (specs.part_at_place place.now (labelled root.now))) }
+/// The value at a place of the tree, without labels.
+pub fn raw(alloc: Global, root: &Labelled, place: &Place) -> Result<Snap, AllocError>
+    requires { IsSome (specs.part_at_place place.now (labelled root.now)) }
+    ensures { IfOk result (λ value. Some (view value) ≡ option_map bare (specs.part_at_place place.now (labelled root.now))) }
 {
-    match part_at_place(root, place) {
-        Some(part) => Ok(Some(part.snapshot(alloc)?)),
-        None => Ok(None),
-    }
-}
-
-/// The value of a node, without labels; none where it is dead.
-pub fn node_snapshot(alloc: Global, root: &Labelled, n: NodeNo) -> Result<Option<Snap>, AllocError>
-    ensures { IfOk result (λ value. option_map view value ≡ option_map bare (specs.node_of n.0 (labelled root.now))) }
-{
-    match node_of(root, n) {
-        Some(node) => Ok(Some(node.snapshot(alloc)?)),
-        None => Ok(None),
-    }
+    let part = part_at_place(root, place).unwrap();
+    part.snapshot(alloc)
 }

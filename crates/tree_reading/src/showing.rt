@@ -13,13 +13,14 @@ ghost use Rattle.tree_core.specs.Outcome.{seen_from};
 ghost use Rattle.tree_core.specs.declared.place.Place.TheVariants as place;
 
 use crate::identifiers::{identifier_of, resolved};
+use crate::nodes::node_of;
 use crate::places::entry_at;
 use crate::pointers::{path_to, way_along};
 use crate::typing::{referred_by, type_at};
 use edit_core::Kind;
 use node_core::{Label, Labelled};
 use pointer_core::{Pointer, Refusal, Rule, Token};
-use snap_core::{Ident, ModelNo, Snap};
+use snap_core::{Ident, ModelNo, NodeNo, Snap};
 use std::alloc::{AllocError, Global};
 use tree_core::{Place, TreeError};
 use type_core::Types;
@@ -35,6 +36,26 @@ pub fn show(alloc: Global, root: &Labelled, path: &Pointer) -> Result<Snap, Tree
         return Err(refused(path.clone_in()?, Rule::Path));
     };
     Ok(part.snapshot(alloc)?)
+}
+
+/// The value of a node; refused `dead` where it is dead.
+pub fn show_node(alloc: Global, root: &Labelled, n: NodeNo) -> Result<Snap, TreeError>
+    ensures { Answers view result (asking.node_shown n.0 (labelled root.now)) }
+{
+    match node_of(root, n) {
+        Some(node) => Ok(node.snapshot(alloc)?),
+        None => Err(refused(Pointer::new(alloc), Rule::Dead)),
+    }
+}
+
+/// The pointer of a node; refused `dead` where it is dead.
+pub fn path_of(alloc: Global, root: &Labelled, n: NodeNo) -> Result<Pointer, TreeError>
+    ensures { Answers (λ path. path) result (asking.node_path n.0 (labelled root.now)) }
+{
+    match path_to(alloc, root, n)? {
+        Some(path) => Ok(path),
+        None => Err(refused(Pointer::new(alloc), Rule::Dead)),
+    }
 }
 
 /// A refusal by a rule at a place.

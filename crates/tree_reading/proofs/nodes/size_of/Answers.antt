@@ -1,4 +1,3 @@
-use Rattle.std.proofs.Common.{◌≡◌, ◌∙◌, sym}
 use Rattle.edit_core.proofs.Logged.{items-in, entries-in}
 use Rattle.node_core.specs.View.{labelled, items, fields, field}
 use Rattle.node_core.proofs.Views.{labelled-Array, labelled-Record}

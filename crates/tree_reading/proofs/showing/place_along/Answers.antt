@@ -1,4 +1,4 @@
-use Rattle.std.proofs.Common.{◌≡◌, Option, sym, subst}
+use Rattle.std.proofs.Common.{Option, sym, subst}
 use Rattle.list_core.specs.Outcome.{Gives}
 use Rattle.node_core.specs.View.{labelled}
 use Rattle.tree_core.specs.Listing.{Named}
