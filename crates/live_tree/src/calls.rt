@@ -7,8 +7,6 @@ ghost use Rattle.patch_core.specs.Application.{HasValue};
 ghost use Rattle.patch_core.specs.Printing.{HasPlainValues};
 ghost use Rattle.type_core.specs.Made.{refused_as};
 ghost use Rattle.edit_core.specs.Typing.{label_of};
-ghost use Rattle.tree_core.specs.Answers.{Answers};
-ghost use Rattle.tree_core.specs.Asking as asking;
 ghost use Rattle.tree_core.specs.Recorded.{state_of, new_tree, after_write, after_list, after_settling, Leaves, IsSoundValue, IsTreeOf, GoesOn};
 ghost use Rattle.tree_core.specs.State.{patches_of};
 ghost use Rattle.tree_core.specs.Write.{write_of};
@@ -17,7 +15,6 @@ ghost use Rattle.live_tree.specs.Giving.{IsPlainChange};
 
 use crate::tree::Tree;
 use patch_core::Patches;
-use pointer_core::Pointer;
 use snap_core::{NodeNo, Snap};
 use std::alloc::Global;
 use tree_core::{Change, Place, TreeError};
@@ -93,27 +90,6 @@ impl Tree {
         ensures ok { IfOk result (λ patches. patches ≡ patches_of (state self.now)) }
         ensures plain { IfOk result (λ patches. All HasPlainValues patches) }
         ensures memory { IfErr result (λ error. error ≡ TreeError.Memory) }
-    {
-        Err(TreeError::Memory)
-    }
-
-    /// The value at a pointer; refused `path` where it is no place. Frozen values and references aren't entered.
-    pub fn show(&self, alloc: Global, path: &Pointer) -> Result<Snap, TreeError>
-        ensures shown { Answers view result (asking.shown path.now (state self.now).tree) }
-        ensures plain { IfOk result (λ value. IsPlain (view value)) }
-    {
-        Err(TreeError::Memory)
-    }
-
-    /// Where the reference at a pointer leads; none where it holds null. Refused `path` where the pointer is no place,
-    /// `kind` where the place is none of references, and `reference` where no node has the identifier.
-    pub fn follow(
-        &self,
-        alloc: Global,
-        types: &Types,
-        path: &Pointer,
-    ) -> Result<Option<Pointer>, TreeError>
-        ensures { Answers (λ target. target) result (asking.led_from types.now path.now (state self.now).tree) }
     {
         Err(TreeError::Memory)
     }

@@ -3,6 +3,7 @@
 
 mod call;
 mod calls;
+mod reading;
 mod tree;
 
 pub use tree::{Mark, Tree};

@@ -18,10 +18,10 @@ pub struct Mark(usize);
 /// A typed tree whose nodes keep their identity, and what was done to it since the last commit.
 #[derive(Debug, Drop)]
 pub struct Tree {
-    root: Labelled,
-    next: usize,
-    calls: RoomyParts<Call>,
-    patches: Patches,
+    pub(crate) root: Labelled,
+    pub(crate) next: usize,
+    pub(crate) calls: RoomyParts<Call>,
+    pub(crate) patches: Patches,
 }
 
 impl Model for Tree {
