@@ -1,2 +1,5 @@
 pub mod Counting
 pub mod RollingBack
+pub mod Recording
+pub mod Writing
+pub mod Beginning

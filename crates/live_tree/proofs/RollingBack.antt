@@ -3,7 +3,7 @@ use Rattle.std.proofs.Common.{◌≡◌, ℕ, ◌+◌, ◌<◌, ◌≤◌, List,
 use Rattle.std.proofs.lemmas.Bool.{lt-leb, le-leb, cond-false, cond-true}
 use Rattle.edit_core.specs.Labelled.{Labelled}
 use Rattle.edit_core.specs.Logged.{LoggedEdit, before_log}
-use Rattle.tree_core.specs.State.{State, Calls, Past, count_of, mark_of, past_within, rolled_back, without_newest}
+use Rattle.tree_core.specs.State.{State, Calls, Past, count_of, mark_of, past_within, rolled_back, without_newest, recorded}
 
 -- while there are more edits than at the mark, the newest call goes
 further : (mark : ℕ) (x : Labelled) (next : ℕ) (calls : Calls)
@@ -28,3 +28,14 @@ nothing mark x next (call ∷ calls) h =
 
 pub at_mark : (mark : ℕ) (s : State) → mark_of s ≤ mark → rolled_back mark s ≡ s
 at_mark mark s h = nothing mark s.tree s.next s.calls h
+
+-- after a change, the mark before it leads back
+pub led_back : (s : State) (value : Labelled) (es : List LoggedEdit) (after : ℕ) → before_log es value ≡ s.tree
+    → rolled_back (mark_of s) (recorded value es after s) ≡ record { tree = s.tree; next = (recorded value es after s).next; calls = s.calls }
+led_back s value [] after undone = at_mark (mark_of s) s (omega arith)
+led_back s value (e ∷ es) after undone =
+    let new : State = record { tree = value; next = after; calls = (e ∷ es) ∷ s.calls } in
+    let old : State = record { tree = before_log (e ∷ es) value; next = after; calls = s.calls } in
+    let more : mark_of s < mark_of new = omega arith in
+    sym (taken_back (mark_of s) new more) ∙ at_mark (mark_of s) old (omega arith)
+    ∙ ap (λ (x : Labelled). record { tree = x; next = after; calls = s.calls }) undone

@@ -21,17 +21,6 @@ use tree_core::{Change, Place, TreeError};
 use type_core::Types;
 
 impl Tree {
-    /// A tree of a value, with new nodes.
-    pub fn new(alloc: Global, types: &Types, value: Snap) -> Result<Tree, TreeError>
-        requires sound { IsSoundValue types.now (view value) }
-        requires plain { IsPlain (view value) }
-        ensures made { IfOk result (λ tree. state tree ≡ state_of (new_tree types.now (view value))) }
-        ensures typed { IfOk result (λ tree. IsTreeOf types.now (state tree)) }
-        ensures memory { IfErr result (λ error. error ≡ TreeError.Memory) }
-    {
-        Err(TreeError::Memory)
-    }
-
     /// Writes one place on behalf of running nodes. After an error all is as before.
     pub fn write(
         &mut self,

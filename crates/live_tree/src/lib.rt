@@ -4,6 +4,8 @@
 mod call;
 mod calls;
 mod reading;
+mod recording;
 mod tree;
+mod writing;
 
 pub use tree::{Mark, Tree};

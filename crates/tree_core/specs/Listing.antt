@@ -21,7 +21,7 @@ use Rattle.edit_core.specs.Ways.{part_at}
 use Rattle.tree_core.specs.Reading.{way_along}
 use Rattle.tree_core.specs.Outcome.{◌>>=◌, refuse, provided, or_refuse}
 use Rattle.tree_core.specs.Changed.{Changed}
-use Rattle.tree_core.specs.Writing.{Tree, Target, place_written, limited_tree, undoubled}
+use Rattle.tree_core.specs.Writing.{Tree, Target, place_written, judged}
 
 -- what a patch writes
 abbrev pub write_by : PatchOp → Value → Write
@@ -94,5 +94,4 @@ patches_written types (p ∷ ps) tree = do
 abbrev pub list_written : Catalog → List Patch → Tree → Outcome Changed
 list_written types ps tree = do
   changed ← patches_written types ps tree
-  within ← limited_tree changed
-  undoubled types within
+  judged types changed

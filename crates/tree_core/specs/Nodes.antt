@@ -1,5 +1,5 @@
 -- The nodes of a tree: their parts, and what is on the way to them.
-use Rattle.std.specs.Prelude.{ℕ, zero, suc, ◌≤◌, length, List, [], ◌∷◌, Bool, false, ◌||◌, ◌==◌, Option, Some, None, unwrap_or, if◌then◌else◌}
+use Rattle.std.specs.Prelude.{ℕ, zero, suc, List, [], ◌∷◌, Bool, false, ◌||◌, ◌==◌, Option, Some, None, unwrap_or, if◌then◌else◌}
 use Rattle.std.specs.Option.{option_map}
 use Rattle.std.specs.Ordering.{nat_cmp, is_lt}
 use Rattle.std.specs.Cmp.Lexicographic.{slice_cmp}
@@ -57,8 +57,3 @@ abbrev pub type_at : Typing → ℕ → List Turn → Labelled → ℕ
 type_at typing t [] x = t
 type_at typing t (turn ∷ way) x =
     unwrap_or (option_map (λ part. type_at typing (part_type typing x (key_of turn)) way part) (part_at_turn turn x)) t
-
--- a new part can be put in at a turn
-abbrev pub CanPut : Turn → Labelled → Type 0
-CanPut (to_item i) x = i ≤ length (items_of x)
-CanPut (to_entry i key) x = i ≤ length (entries_of x)

@@ -1,6 +1,5 @@
 -- Writing one place: what a write makes of the node that it is written to, or the first rule that it doesn't meet.
-use Rattle.std.specs.Prelude.{ℕ, List, [], ◌∷◌, ◌++◌, length, map, slice_get, Bool, true, false, ◌&&◌, not, unwrap_or, nat_le, Option, Some, None, Ok, Err, decimal, if◌then◌else◌}
-use Rattle.std.specs.Ordering.{int_eq}
+use Rattle.std.specs.Prelude.{ℕ, List, [], ◌∷◌, ◌++◌, length, map, slice_get, Bool, true, false, ◌&&◌, ◌||◌, not, unwrap_or, nat_le, Option, Some, None, Ok, Err, decimal, if◌then◌else◌}
 use Rattle.std.specs.Str.{bytes_eq}
 use Rattle.snap_core.specs.Value.{Value, integer, text, list, dict}
 use Rattle.snap_core.specs.declared.number.ModelNo.{ModelNo}
@@ -13,7 +12,7 @@ use Rattle.type_core.specs.Doubled.{identifiers_of, doubled_of}
 use Rattle.edit_core.specs.declared.kind.Kind.{Kind}
 use Rattle.edit_core.specs.declared.kind.Kind.TheVariants as kind
 use Rattle.edit_core.specs.Comparing.{is_equal}
-use Rattle.edit_core.specs.Labelled.{Labelled, bare}
+use Rattle.edit_core.specs.Labelled.{Labelled, leaf, many, keyed, bare}
 use Rattle.edit_core.specs.Edit.{Turn, to_item}
 use Rattle.edit_core.specs.Typing.{Typing, label_of, kind_in, field_at, is_kind}
 use Rattle.edit_core.specs.Template.{template, entry_at}
@@ -65,20 +64,30 @@ is_identifier_of typing kind name = false
 abbrev pub is_identifier : Typing → Labelled → List ℕ → Bool
 is_identifier typing node name = is_identifier_of typing (kind_in (label_of node)) name
 
+abbrev pub is_text : Value → Bool
+is_text (text s) = true
+is_text v = false
+
+abbrev pub is_integer : Value → Bool
+is_integer (integer z) = true
+is_integer v = false
+
 -- two texts, or two integers, that aren't the same
-abbrev pub are_others : Option Value → Option Value → Bool
-are_others (Some (text s)) (Some (text u)) = not (bytes_eq s u)
-are_others (Some (integer y)) (Some (integer z)) = not (int_eq y z)
-are_others _ _ = false
+abbrev pub are_others : Value → Value → Bool
+are_others old new = ((is_text old && is_text new) || (is_integer old && is_integer new)) && not (is_equal old new)
+
+abbrev pub others_held : Option Labelled → Option Value → Bool
+others_held (Some old) (Some new) = are_others (bare old) new
+others_held _ _ = false
 
 -- the identifier that a record gives another value of the right kind, if it does
-abbrev pub other_under : Option (List ℕ) → Value → Value → Option (List ℕ)
-other_under (Some name) old new = if are_others (field_at name old) (field_at name new) then Some name else None
-other_under None old new = None
+abbrev pub other_under : Option (List ℕ) → Labelled → Value → Option (List ℕ)
+other_under (Some name) node new = if others_held (entry_at name (entries_of node)) (field_at name new) then Some name else None
+other_under None node new = None
 
-abbrev pub other_identifier : Typing → Kind → Value → Value → Option (List ℕ)
-other_identifier typing (kind.Model m) old new = other_under (typing.identifier_of m) old new
-other_identifier typing kind old new = None
+abbrev pub other_identifier : Typing → Kind → Labelled → Value → Option (List ℕ)
+other_identifier typing (kind.Model m) node new = other_under (typing.identifier_of m) node new
+other_identifier typing kind node new = None
 
 abbrev pub unless_fixed : {A : Type 0} → Path → Option (List ℕ) → Outcome A → Outcome A
 unless_fixed node (Some name) rest = refuse (node ++ name ∷ []) rule.Fixed
@@ -102,10 +111,13 @@ node_making types (kind.Model m) t v = making types (model_type types m) (Some v
 node_making types kind t v =
     provided (is_kind ((typing_of types.table).kind_of t v) kind) [] rule.Mistyped (making types t (Some v))
 
-abbrev pub whole_set : Writing → Kind → Value → Labelled → Outcome Changed
-whole_set w kind v node = unless_fixed w.node (other_identifier (typing_in w) kind (bare node) v) (do
+abbrev pub whole_made : Writing → Kind → Value → Labelled → Outcome Changed
+whole_made w kind v node = do
   made ← seen_from w.node (node_making w.types kind w.type v)
-  Ok (value_set (typing_in w) (setting (own_type w.types kind w.type) node made w.next)))
+  Ok (value_set (typing_in w) (setting (own_type w.types kind w.type) node made w.next))
+
+abbrev pub whole_set : Writing → Kind → Value → Labelled → Outcome Changed
+whole_set w kind v node = unless_fixed w.node (other_identifier (typing_in w) kind node v) (whole_made w kind v node)
 
 abbrev pub whole_written : Writing → Kind → Write → Labelled → Outcome Changed
 whole_written w kind write node = do
@@ -194,11 +206,15 @@ item_type w a = part_type (typing_in w) a.node []
 abbrev pub item_making : Writing → Item → Value → Outcome Value
 item_making w a v = seen_from (w.node ++ decimal a.index ∷ []) (making w.types (item_type w a) (Some v))
 
+abbrev pub item_put : Writing → Item → Labelled → Value → Outcome Changed
+item_put w a old v = do
+  made ← item_making w a v
+  Ok (placed (to_item a.index ∷ []) a.node (one_item_set (typing_in w) (setting (item_type w a) old made w.next)))
+
 abbrev pub item_replaced : Writing → Item → Value → Outcome Changed
 item_replaced w a v = do
   old ← or_refuse (slice_get (items_of a.node) a.index) w.named rule.Index
-  made ← item_making w a v
-  Ok (placed (to_item a.index ∷ []) a.node (one_item_set (typing_in w) (setting (item_type w a) old made w.next)))
+  item_put w a old v
 
 abbrev pub item_inserted : Writing → Item → Value → Outcome Changed
 item_inserted w a v = provided (nat_le a.index (length (items_of a.node))) w.named rule.Index (do
@@ -217,17 +233,29 @@ item_written w a remove = item_removed w a
 
 -- A place of a node: its form suits the node's kind.
 
-abbrev pub is_model : Kind → Bool
-is_model (kind.Model m) = true
-is_model kind = false
+abbrev pub model_kind : Kind → Bool
+model_kind (kind.Model m) = true
+model_kind kind = false
 
-abbrev pub is_map : Kind → Bool
-is_map (kind.Map t) = true
-is_map kind = false
+abbrev pub map_kind : Kind → Bool
+map_kind (kind.Map t) = true
+map_kind kind = false
 
-abbrev pub is_array : Kind → Bool
-is_array (kind.Array t) = true
-is_array kind = false
+abbrev pub array_kind : Kind → Bool
+array_kind (kind.Array t) = true
+array_kind kind = false
+
+abbrev pub is_model : Labelled → Bool
+is_model (keyed l es) = model_kind l.kind
+is_model node = false
+
+abbrev pub is_map : Labelled → Bool
+is_map (keyed l es) = map_kind l.kind
+is_map node = false
+
+abbrev pub is_array : Labelled → Bool
+is_array (many l bs) = array_kind l.kind
+is_array node = false
 
 -- the rest, where the kind is one of those
 abbrev pub suited : Bool → Outcome Changed → Outcome Changed
@@ -235,9 +263,9 @@ suited suits rest = provided suits [] rule.Kind rest
 
 abbrev pub kind_written : Writing → Place → Write → Labelled → Kind → Outcome Changed
 kind_written w (place.Whole n) write node kind = whole_written w kind write node
-kind_written w (place.Prop n name) write node kind = suited (is_model kind) (property_written w (record { node = node; key = name }) write)
-kind_written w (place.Item n i) write node kind = suited (is_array kind) (item_written w (record { node = node; index = i }) write)
-kind_written w (place.Key n key) write node kind = suited (is_map kind) (key_written w (record { node = node; key = key }) write)
+kind_written w (place.Prop n name) write node kind = suited (is_model node) (property_written w (record { node = node; key = name }) write)
+kind_written w (place.Item n i) write node kind = suited (is_array node) (item_written w (record { node = node; index = i }) write)
+kind_written w (place.Key n key) write node kind = suited (is_map node) (key_written w (record { node = node; key = key }) write)
 
 abbrev pub node_written : Writing → Place → Write → Labelled → Outcome Changed
 node_written w place write node = do
@@ -310,9 +338,14 @@ unless_doubled None changed = Ok changed
 abbrev pub undoubled : Catalog → Changed → Outcome Changed
 undoubled types changed = unless_doubled (doubled_of (identifiers_of types (bare changed.value))) changed
 
+-- a changed tree that meets both
+abbrev pub judged : Catalog → Changed → Outcome Changed
+judged types changed = do
+  within ← limited_tree changed
+  undoubled types within
+
 -- what a write makes of a tree, or the first rule that it doesn't meet
 abbrev pub written : Catalog → Target → Write → Tree → Outcome Changed
 written types target write tree = do
   changed ← place_written types target write tree
-  within ← limited_tree changed
-  undoubled types within
+  judged types changed

@@ -3,7 +3,7 @@ use Rattle.std.specs.Prelude.{◌≡◌, ℕ, ◌+◌, List}
 use Rattle.edit_core.specs.Template.{Template, numbered, new_count}
 use Rattle.node_core.specs.View.{labelled, edits_of}
 use Rattle.tree_core.specs.declared.changed.Changed.{Changed}
-use Rattle.tree_core.specs.declared.stubs.New.{New}
+use Rattle.tree_core.specs.declared.reconciling.New.{New}
 use Rattle.tree_core.specs.Changed as specs
 use Rattle.tree_core.specs.Writing as specs_of
 use Rattle.tree_core.specs.declared.writing.Writing.{Writing}
@@ -26,11 +26,11 @@ pub record Added (new : Template) (next : ℕ) (given : New) : Type 0 where
 abbrev pub goes_by : Writing → specs_of.Writing
 goes_by w = record { types = w.types.now; node = w.node.now; type = w.of.0; named = w.named.now; next = w.next }
 
-abbrev pub entry : Entry → specs_of.Entry
-entry e = record { node = labelled e.node.now; key = e.key.now }
+abbrev pub entry_of : Entry → specs_of.Entry
+entry_of e = record { node = labelled e.node.now; key = e.key.now }
 
-abbrev pub item : Item → specs_of.Item
-item a = record { node = labelled a.node.now; index = a.index }
+abbrev pub item_of : Item → specs_of.Item
+item_of a = record { node = labelled a.node.now; index = a.index }
 
 -- the place that is written, and the tree that it is written in
 abbrev pub target : Target → specs_of.Target

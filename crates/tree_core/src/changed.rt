@@ -1,17 +1,17 @@
 //! What a change makes of a labelled value.
 ghost use Rattle.std.specs.Prelude.{◌≡◌, [], ◌∷◌, ◌++◌, map, length, IfOk};
 ghost use Rattle.list_core.specs.Outcome.{Gives};
-ghost use Rattle.node_core.specs.View.{labelled, way, turn, operation as operation_of, edit_of, edits_of};
+ghost use Rattle.node_core.specs.View.{labelled, items, fields, field, way, turn, operation as operation_of, edit_of, edits_of};
 ghost use Rattle.edit_core.specs.Edit.{add, remove};
-ghost use Rattle.edit_core.specs.Logged.{after_at};
+ghost use Rattle.edit_core.specs.Logged.{after_at, spliced};
+ghost use Rattle.edit_core.specs.Labelled as edits;
 ghost use Rattle.edit_core.specs.Template.{numbered, new_count};
 ghost use Rattle.tree_core.specs.Changed as specs;
-ghost use Rattle.tree_core.specs.Nodes.{CanPut};
 ghost use Rattle.tree_core.specs.Written.{changed, Added};
 
-use crate::stubs::New;
+use crate::reconciling::New;
 use list_core::Parts;
-use node_core::{Labelled, LabelledField, LoggedEdit, Operation, Turn, Way};
+use node_core::{Entries, Items, Labelled, LabelledField, LoggedEdit, Operation, Turn, Way};
 use std::alloc::{AllocError, Global};
 
 /// The value after a change, the edits that lead there, and the next number.
@@ -37,6 +37,20 @@ pub fn placed(
         edits: outward(alloc, place, edits)?,
         next,
     })
+}
+
+/// A changed part of a node, as a change of the node.
+pub fn placed_at(
+    alloc: Global,
+    to: Turn,
+    node: &Labelled,
+    part: Changed,
+) -> Result<Changed, AllocError>
+    ensures { IfOk result (λ c. changed c ≡ specs.placed (turn to ∷ []) (labelled node.now) (changed part)) }
+{
+    let mut way = Parts::new(alloc);
+    way.push(to)?;
+    placed(alloc, way.as_slice(), node, part)
 }
 
 /// Edits as they read from a place that a way leads from.
@@ -79,7 +93,6 @@ fn joined(alloc: Global, first: &[Turn], rest: &Way) -> Result<Way, AllocError>
 
 /// A new part put in at a turn.
 pub fn part_added(alloc: Global, to: Turn, new: New, node: &Labelled) -> Result<Changed, AllocError>
-    requires { CanPut (turn to) (labelled node.now) }
     ensures { IfOk result (λ c. changed c ≡ specs.by_edit (record { way = turn to ∷ []; operation = add (labelled new.value) }) new.next (labelled node.now)) }
 {
     let New { value: part, next } = new;
@@ -128,38 +141,57 @@ fn by_edit(
     Ok(Changed { value, edits, next })
 }
 
-/// A node with a new part at a turn.
-#[tactic(auto, using(crate::proofs::Splicing::put_item, crate::proofs::Splicing::put_entry, crate::proofs::Splicing::items_seen, crate::proofs::Splicing::entries_seen))]
+/// A node with a new part at a turn; past the end of its parts, at their end.
 fn with_added(
     alloc: Global,
     to: &Turn,
     new: Labelled,
     node: &Labelled,
 ) -> Result<Labelled, AllocError>
-    requires { CanPut (turn to.now) (labelled node.now) }
     ensures { IfOk result (λ x. labelled x ≡ after_at (turn to.now) (add (labelled new)) (labelled node.now)) }
 {
-    match (node.clone_in(alloc)?, to) {
-        (Labelled::Array(label, mut items), Turn::Item(i)) => {
-            items.insert(*i, new)?;
-            Ok(Labelled::Array(label, items))
+    let copy = node.clone_in(alloc)?;
+    put_in(copy, to, new)
+}
+
+#[tactic(auto, using(crate::proofs::Splicing::put_array, crate::proofs::Splicing::put_record))]
+fn put_in(node: Labelled, to: &Turn, new: Labelled) -> Result<Labelled, AllocError>
+    ensures { IfOk result (λ x. labelled x ≡ after_at (turn to.now) (add (labelled new)) (labelled node)) }
+{
+    match (node, to) {
+        (Labelled::Array(label, parts), Turn::Item(i)) => {
+            Ok(Labelled::Array(label, with_item(parts, *i, new)?))
         }
-        (Labelled::Record(label, mut fields), Turn::Entry(i, key)) => {
-            fields.insert(
-                *i,
-                LabelledField {
-                    key: key.clone_in()?,
-                    value: new,
-                },
-            )?;
-            Ok(Labelled::Record(label, fields))
+        (Labelled::Record(label, parts), Turn::Entry(i, key)) => {
+            let field = LabelledField {
+                key: key.clone_in()?,
+                value: new,
+            };
+            Ok(Labelled::Record(label, with_field(parts, *i, field)?))
         }
-        (copy, _) => Ok(copy),
+        (node, _) => Ok(node),
     }
 }
 
-/// A node without its part at a turn.
-#[tactic(auto, using(crate::proofs::Splicing::cut_item, crate::proofs::Splicing::cut_entry, crate::proofs::Splicing::no_item_cut, crate::proofs::Splicing::no_entry_cut, crate::proofs::Splicing::items_seen, crate::proofs::Splicing::entries_seen))]
+#[tactic(auto, using(crate::proofs::Splicing::put_item))]
+fn with_item(mut parts: Items, at: usize, new: Labelled) -> Result<Items, AllocError>
+    ensures { IfOk result (λ xs. items xs ≡ spliced at 0 (labelled new ∷ []) (items parts)) }
+{
+    let at = at.min(parts.len());
+    parts.insert(at, new)?;
+    Ok(parts)
+}
+
+#[tactic(auto, using(crate::proofs::Splicing::put_entry))]
+fn with_field(mut parts: Entries, at: usize, new: LabelledField) -> Result<Entries, AllocError>
+    ensures { IfOk result (λ fs. fields fs ≡ spliced at 0 (field new ∷ []) (fields parts)) }
+{
+    let at = at.min(parts.len());
+    parts.insert(at, new)?;
+    Ok(parts)
+}
+
+/// A node without its part at a turn, if there is one.
 fn without(
     alloc: Global,
     to: &Turn,
@@ -168,19 +200,44 @@ fn without(
 ) -> Result<Labelled, AllocError>
     ensures { IfOk result (λ x. labelled x ≡ after_at (turn to.now) (remove (labelled old.now)) (labelled node.now)) }
 {
-    match (node.clone_in(alloc)?, to) {
-        (Labelled::Array(label, mut items), Turn::Item(i)) => {
-            if *i < items.len() {
-                items.remove(*i);
-            }
-            Ok(Labelled::Array(label, items))
+    let copy = node.clone_in(alloc)?;
+    Ok(cut_out(copy, to))
+}
+
+#[tactic(auto, using(crate::proofs::Splicing::cut_array, crate::proofs::Splicing::cut_record))]
+fn cut_out(node: Labelled, to: &Turn) -> Labelled
+    ensures { (old : edits.Labelled) → labelled result ≡ after_at (turn to.now) (remove old) (labelled node) }
+{
+    match (node, to) {
+        (Labelled::Array(label, parts), Turn::Item(i)) => Labelled::Array(
+            label,
+            without_item(parts, *i),
+        ),
+        (Labelled::Record(label, parts), Turn::Entry(i, _)) => {
+            Labelled::Record(label, without_field(parts, *i))
         }
-        (Labelled::Record(label, mut fields), Turn::Entry(i, _)) => {
-            if *i < fields.len() {
-                fields.remove(*i);
-            }
-            Ok(Labelled::Record(label, fields))
-        }
-        (copy, _) => Ok(copy),
+        (node, _) => node,
     }
+}
+
+#[tactic(auto, using(crate::proofs::Splicing::cut_item, crate::proofs::Splicing::no_item_cut))]
+fn without_item(mut parts: Items, at: usize) -> Items
+    ensures { items result ≡ spliced at 1 [] (items parts) }
+{
+    if at >= parts.len() {
+        return parts;
+    }
+    let _ = parts.remove(at);
+    parts
+}
+
+#[tactic(auto, using(crate::proofs::Splicing::cut_entry, crate::proofs::Splicing::no_entry_cut))]
+fn without_field(mut parts: Entries, at: usize) -> Entries
+    ensures { fields result ≡ spliced at 1 [] (fields parts) }
+{
+    if at >= parts.len() {
+        return parts;
+    }
+    let _ = parts.remove(at);
+    parts
 }

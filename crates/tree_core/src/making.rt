@@ -3,7 +3,7 @@ ghost use Rattle.std.specs.Prelude.{◌≡◌, Some, IfOk};
 ghost use Rattle.snap_core.specs.Value.{Value, IsPlain};
 ghost use Rattle.snap_core.specs.View.{view};
 ghost use Rattle.type_core.specs.Making.{Outcome, making, entry_making};
-ghost use Rattle.type_core.specs.Made as made;
+ghost use Rattle.type_core.specs.Made as makes;
 ghost use Rattle.edit_core.specs.Typing.{is_kind};
 ghost use Rattle.tree_core.specs.Answers.{Answers};
 ghost use Rattle.tree_core.specs.Outcome.{seen_from};
@@ -11,7 +11,7 @@ ghost use Rattle.tree_core.specs.Writing.{node_making};
 
 use crate::error::{TreeError, refuse};
 use crate::paths::joined;
-use crate::stubs::{kind_of, model_type};
+use crate::typing::{kind_of, model_type};
 use edit_core::Kind;
 use pointer_core::{Pointer, Refusal, Rule};
 use snap_core::{Snap, TypeNo};
@@ -37,7 +37,7 @@ pub fn make_at(
 #[tactic(auto, using(crate::proofs::Answering::answers_made))]
 fn make_given(alloc: Global, types: &Types, t: TypeNo, value: &Snap) -> Result<Snap, MakeError>
     requires { IsPlain (view value.now) }
-    ensures made { made.Answers view result (making types.now t.0 (Some (view value.now))) }
+    ensures made { makes.Answers view result (making types.now t.0 (Some (view value.now))) }
     ensures plain { IfOk result (λ s. IsPlain (view s)) }
 {
     make(alloc, types, t, Some(value))
@@ -62,7 +62,7 @@ pub fn make_entry_at(
 
 /// What making came to, as it reads from a place.
 fn at_place(place: &Pointer, made: Result<Snap, MakeError>) -> Result<Snap, TreeError>
-    ensures made { (outcome : Outcome Value) → made.Answers view made outcome → Answers view result (seen_from place.now outcome) }
+    ensures made { (outcome : Outcome Value) → makes.Answers view made outcome → Answers view result (seen_from place.now outcome) }
     ensures plain { IfOk made (λ s. IsPlain (view s)) → IfOk result (λ s. IsPlain (view s)) }
 {
     match made {

@@ -1,17 +1,21 @@
 //! The parts of nodes.
-ghost use Rattle.std.specs.Prelude.{◌≡◌, ◌≤◌, length, IfOk};
+ghost use Rattle.std.specs.Prelude.{◌≡◌, IfOk};
 ghost use Rattle.std.specs.Option.{option_copied, option_map};
 ghost use Rattle.edit_core.specs.Template.{entry_at};
-ghost use Rattle.node_core.specs.View.{labelled, items, fields, turn};
+ghost use Rattle.node_core.specs.View.{labelled, items, fields, field, turn};
+ghost use Rattle.std.specs.Ordering.{nat_cmp, is_lt};
+ghost use Rattle.std.specs.Cmp.Lexicographic.{slice_cmp};
+ghost use Rattle.std.specs.Str.{bytes_eq};
 ghost use Rattle.tree_core.specs.Nodes as specs;
 ghost use Rattle.tree_core.specs.TypesTyping.{typing_of};
 
-use crate::stubs::type_under;
+use crate::typing::type_under;
 use node_core::{Labelled, LabelledField, Turn};
 use snap_core::{Txt, TypeNo};
 use std::alloc::{AllocError, Global};
 use type_core::Types;
 
+#[tactic(auto, using(crate::proofs::Splicing::array_items))]
 /// The items of an array; none of anything else.
 pub fn items_of(node: &Labelled) -> &[Labelled]
     ensures { items result.now ≡ specs.items_of (labelled node.now) }
@@ -22,6 +26,7 @@ pub fn items_of(node: &Labelled) -> &[Labelled]
     }
 }
 
+#[tactic(auto, using(crate::proofs::Splicing::record_entries))]
 /// The entries of a model or a map; none of anything else.
 pub fn entries_of(node: &Labelled) -> &[LabelledField]
     ensures { fields result.now ≡ specs.entries_of (labelled node.now) }
@@ -34,17 +39,21 @@ pub fn entries_of(node: &Labelled) -> &[LabelledField]
 
 /// Where an entry with a key stands, or would go.
 pub fn place_in(entries: &[LabelledField], key: &str) -> usize
-    ensures place { result ≡ specs.place_in key.now (fields entries.now) }
-    ensures within { result ≤ length entries.now }
+    ensures { result ≡ specs.place_in key.now (fields entries.now) }
 {
-    let mut at = 0;
-    for entry in entries {
-        if entry.key.text() >= key {
+    for (at, entry) in entries.iter().enumerate() {
+        if !comes_before(entry, key) {
             return at;
         }
-        at += 1;
     }
-    at
+    entries.len()
+}
+
+/// Whether an entry's key comes before another.
+fn comes_before(entry: &LabelledField, key: &str) -> bool
+    ensures { result ≡ is_lt (slice_cmp nat_cmp (field entry.now).0 key.now) }
+{
+    entry.key.text() < key
 }
 
 /// The value of the first entry with a key.
@@ -52,17 +61,23 @@ pub fn entry_at<'a>(entries: &'a [LabelledField], key: &str) -> Option<&'a Label
     ensures { option_map labelled (option_copied result) ≡ entry_at key.now (fields entries.now) }
 {
     for entry in entries {
-        if entry.key.text() == key {
+        if has_key(entry, key) {
             return Some(&entry.value);
         }
     }
     None
 }
 
+/// Whether an entry stands under a key.
+fn has_key(entry: &LabelledField, key: &str) -> bool
+    ensures { result ≡ bytes_eq key.now (field entry.now).0 }
+{
+    key == entry.key.text()
+}
+
 /// The turn from a node to its entry with a key.
 pub fn turn_to(alloc: Global, node: &Labelled, key: &str) -> Result<Turn, AllocError>
-    ensures turn { IfOk result (λ t. turn t ≡ specs.to_key key.now (specs.entries_of (labelled node.now))) }
-    ensures room { IfOk result (λ t. specs.CanPut (turn t) (labelled node.now)) }
+    ensures { IfOk result (λ t. turn t ≡ specs.to_key key.now (specs.entries_of (labelled node.now))) }
 {
     let at = place_in(entries_of(node), key);
     Ok(Turn::Entry(at, Txt::copy(alloc, key)?))

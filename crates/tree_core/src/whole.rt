@@ -14,7 +14,8 @@ use crate::fixed::other_identifier;
 use crate::making::make_node;
 use crate::paths::under;
 use crate::place::Change;
-use crate::stubs::{model_type, reconcile};
+use crate::reconciling::reconcile;
+use crate::typing::model_type;
 use crate::writing::Writing;
 use edit_core::Kind;
 use node_core::Labelled;
@@ -50,9 +51,22 @@ fn set_whole(
     requires { IsPlain (view value.now) }
     ensures { Answers changed result (specs.whole_set (goes_by by.now) kind (view value.now) (labelled node.now)) }
 {
-    if let Some(name) = other_identifier(by.types, kind, node, value) {
-        return Err(refuse(under(alloc, by.node, name.text())?, Rule::Fixed));
+    match other_identifier(by.types, kind, node, value) {
+        Some(name) => Err(refuse(under(alloc, by.node, name.text())?, Rule::Fixed)),
+        None => make_whole(alloc, by, kind, value, node),
     }
+}
+
+fn make_whole(
+    alloc: Global,
+    by: &Writing,
+    kind: Kind,
+    value: &Snap,
+    node: &Labelled,
+) -> Result<Changed, TreeError>
+    requires { IsPlain (view value.now) }
+    ensures { Answers changed result (specs.whole_made (goes_by by.now) kind (view value.now) (labelled node.now)) }
+{
     let made = make_node(alloc, by.types, kind, by.of, value, by.node)?;
     let t = own_type(by.types, kind, by.of);
     Ok(reconcile(alloc, by.types, t, node, &made, by.next)?)

@@ -5,17 +5,17 @@ ghost use Rattle.snap_core.specs.View.{view};
 ghost use Rattle.node_core.specs.View.{labelled};
 ghost use Rattle.tree_core.specs.Answers.{Answers};
 ghost use Rattle.tree_core.specs.Write.{write_of, WritesPlain};
-ghost use Rattle.tree_core.specs.Written.{changed, goes_by, entry, item};
+ghost use Rattle.tree_core.specs.Written.{changed, goes_by, entry_of, item_of};
 ghost use Rattle.tree_core.specs.Writing as specs;
 
-use crate::changed::{Changed, part_added, part_removed, placed};
+use crate::changed::{Changed, part_added, part_removed, placed_at};
 use crate::error::{TreeError, refuse};
 use crate::fixed::is_identifier;
 use crate::making::{make_at, make_entry_at};
 use crate::parts::{entries_of, entry_at, items_of, part_type, turn_to};
 use crate::paths::{under, under_index};
 use crate::place::{Change, Place};
-use crate::stubs::{label_new, reconcile, set_item};
+use crate::reconciling::{label_new, reconcile, set_item};
 use crate::whole::write_whole;
 use edit_core::Kind;
 use node_core::{Labelled, Turn};
@@ -77,30 +77,65 @@ fn write_kind(
     requires { WritesPlain (write_of change.now) }
     ensures { Answers changed result (specs.kind_written (goes_by by.now) place.now (write_of change.now) (labelled node.now) kind) }
 {
-    match (place, kind) {
-        (Place::Whole(_), _) => write_whole(alloc, by, kind, change, node),
-        (Place::Prop(_, name), Kind::Model(_)) => {
+    match place {
+        Place::Whole(_) => write_whole(alloc, by, kind, change, node),
+        Place::Prop(_, name) => {
+            if !is_model(node) {
+                return Err(refuse(Pointer::new(alloc), Rule::Kind));
+            }
             let entry = Entry {
                 node,
                 key: name.text(),
             };
             write_property(alloc, by, &entry, change)
         }
-        (Place::Item(_, index), Kind::Array(_)) => {
+        Place::Item(_, index) => {
+            if !is_array(node) {
+                return Err(refuse(Pointer::new(alloc), Rule::Kind));
+            }
             let item = Item {
                 node,
                 index: *index as usize,
             };
             write_item(alloc, by, &item, change)
         }
-        (Place::Key(_, key), Kind::Map(_)) => {
+        Place::Key(_, key) => {
+            if !is_map(node) {
+                return Err(refuse(Pointer::new(alloc), Rule::Kind));
+            }
             let entry = Entry {
                 node,
                 key: key.text(),
             };
             write_key(alloc, by, &entry, change)
         }
-        _ => Err(refuse(Pointer::new(alloc), Rule::Kind)),
+    }
+}
+
+fn is_model(node: &Labelled) -> bool
+    ensures { result ≡ specs.is_model (labelled node.now) }
+{
+    match node {
+        Labelled::Record(label, _) => matches!(label.kind, Kind::Model(_)),
+        _ => false,
+    }
+}
+
+fn is_map(node: &Labelled) -> bool
+    ensures { result ≡ specs.is_map (labelled node.now) }
+{
+    match node {
+        Labelled::Record(label, _) => matches!(label.kind, Kind::Map(_)),
+        _ => false,
+    }
+}
+
+fn is_array(node: &Labelled) -> bool
+    ensures { result ≡ specs.is_array (labelled node.now) }
+{
+    match node {
+        Labelled::Array(label, _) => matches!(label.kind, Kind::Array(_)),
+        _ => false,
     }
 }
 
@@ -111,7 +146,7 @@ fn write_property(
     change: &Change,
 ) -> Result<Changed, TreeError>
     requires { WritesPlain (write_of change.now) }
-    ensures { Answers changed result (specs.property_written (goes_by by.now) (entry entry.now) (write_of change.now)) }
+    ensures { Answers changed result (specs.property_written (goes_by by.now) (entry_of entry.now) (write_of change.now)) }
 {
     match entry_at(entries_of(entry.node), entry.key) {
         Some(old) => match change {
@@ -132,7 +167,7 @@ fn set_property(
     value: &Snap,
 ) -> Result<Changed, TreeError>
     requires { IsPlain (view value.now) }
-    ensures { Answers changed result (specs.property_set (goes_by by.now) (entry entry.now) (labelled old.now) (view value.now)) }
+    ensures { Answers changed result (specs.property_set (goes_by by.now) (entry_of entry.now) (labelled old.now) (view value.now)) }
 {
     let path = under(alloc, by.node, entry.key)?;
     if is_identifier(by.types, entry.node, entry.key) && !old.equals(value) {
@@ -152,12 +187,12 @@ fn set_entry(
     made: &Snap,
 ) -> Result<Changed, AllocError>
     requires { IsPlain (view made.now) }
-    ensures { Rattle.std.specs.Prelude.IfOk result (λ c. changed c ≡ specs.entry_set (goes_by by.now) (entry entry.now) (labelled old.now) (view made.now)) }
+    ensures { Rattle.std.specs.Prelude.IfOk result (λ c. changed c ≡ specs.entry_set (goes_by by.now) (entry_of entry.now) (labelled old.now) (view made.now)) }
 {
     let t = part_type(by.types, entry.node, entry.key);
     let part = reconcile(alloc, by.types, t, old, made, by.next)?;
     let turn = turn_to(alloc, entry.node, entry.key)?;
-    placed(alloc, &[turn], entry.node, part)
+    placed_at(alloc, turn, entry.node, part)
 }
 
 fn write_key(
@@ -167,7 +202,7 @@ fn write_key(
     change: &Change,
 ) -> Result<Changed, TreeError>
     requires { WritesPlain (write_of change.now) }
-    ensures { Answers changed result (specs.key_written (goes_by by.now) (entry entry.now) (write_of change.now)) }
+    ensures { Answers changed result (specs.key_written (goes_by by.now) (entry_of entry.now) (write_of change.now)) }
 {
     match change {
         Change::Set(value) | Change::Insert(value) => put_key(alloc, by, entry, value),
@@ -177,7 +212,7 @@ fn write_key(
 
 fn put_key(alloc: Global, by: &Writing, entry: &Entry, value: &Snap) -> Result<Changed, TreeError>
     requires { IsPlain (view value.now) }
-    ensures { Answers changed result (specs.key_put (goes_by by.now) (entry entry.now) (view value.now)) }
+    ensures { Answers changed result (specs.key_put (goes_by by.now) (entry_of entry.now) (view value.now)) }
 {
     let path = under(alloc, by.node, entry.key)?;
     let t = part_type(by.types, entry.node, entry.key);
@@ -193,7 +228,7 @@ fn put_key(alloc: Global, by: &Writing, entry: &Entry, value: &Snap) -> Result<C
 }
 
 fn remove_key(alloc: Global, by: &Writing, entry: &Entry) -> Result<Changed, TreeError>
-    ensures { Answers changed result (specs.key_removed (goes_by by.now) (entry entry.now)) }
+    ensures { Answers changed result (specs.key_removed (goes_by by.now) (entry_of entry.now)) }
 {
     match entry_at(entries_of(entry.node), entry.key) {
         Some(old) => {
@@ -211,7 +246,7 @@ fn write_item(
     change: &Change,
 ) -> Result<Changed, TreeError>
     requires { WritesPlain (write_of change.now) }
-    ensures { Answers changed result (specs.item_written (goes_by by.now) (item item.now) (write_of change.now)) }
+    ensures { Answers changed result (specs.item_written (goes_by by.now) (item_of item.now) (write_of change.now)) }
 {
     match change {
         Change::Set(value) => replace_item(alloc, by, item, value),
@@ -227,22 +262,33 @@ fn replace_item(
     value: &Snap,
 ) -> Result<Changed, TreeError>
     requires { IsPlain (view value.now) }
-    ensures { Answers changed result (specs.item_replaced (goes_by by.now) (item item.now) (view value.now)) }
+    ensures { Answers changed result (specs.item_replaced (goes_by by.now) (item_of item.now) (view value.now)) }
 {
     match items_of(item.node).get(item.index) {
-        Some(old) => {
-            let made = make_item(alloc, by, item, value)?;
-            let t = part_type(by.types, item.node, "");
-            let part = set_item(alloc, by.types, t, old, &made, by.next)?;
-            Ok(placed(alloc, &[Turn::Item(item.index)], item.node, part)?)
-        }
+        Some(old) => put_item(alloc, by, item, old, value),
         None => Err(refuse(by.named.clone_in()?, Rule::Index)),
     }
 }
 
+fn put_item(
+    alloc: Global,
+    by: &Writing,
+    item: &Item,
+    old: &Labelled,
+    value: &Snap,
+) -> Result<Changed, TreeError>
+    requires { IsPlain (view value.now) }
+    ensures { Answers changed result (specs.item_put (goes_by by.now) (item_of item.now) (labelled old.now) (view value.now)) }
+{
+    let made = make_item(alloc, by, item, value)?;
+    let t = part_type(by.types, item.node, "");
+    let part = set_item(alloc, by.types, t, old, &made, by.next)?;
+    Ok(placed_at(alloc, Turn::Item(item.index), item.node, part)?)
+}
+
 fn insert_item(alloc: Global, by: &Writing, item: &Item, value: &Snap) -> Result<Changed, TreeError>
     requires { IsPlain (view value.now) }
-    ensures { Answers changed result (specs.item_inserted (goes_by by.now) (item item.now) (view value.now)) }
+    ensures { Answers changed result (specs.item_inserted (goes_by by.now) (item_of item.now) (view value.now)) }
 {
     if item.index > items_of(item.node).len() {
         return Err(refuse(by.named.clone_in()?, Rule::Index));
@@ -254,7 +300,7 @@ fn insert_item(alloc: Global, by: &Writing, item: &Item, value: &Snap) -> Result
 }
 
 fn remove_item(alloc: Global, by: &Writing, item: &Item) -> Result<Changed, TreeError>
-    ensures { Answers changed result (specs.item_removed (goes_by by.now) (item item.now)) }
+    ensures { Answers changed result (specs.item_removed (goes_by by.now) (item_of item.now)) }
 {
     match items_of(item.node).get(item.index) {
         Some(old) => Ok(part_removed(alloc, Turn::Item(item.index), old, by.next, item.node)?),
@@ -265,7 +311,7 @@ fn remove_item(alloc: Global, by: &Writing, item: &Item) -> Result<Changed, Tree
 /// What an array's type makes of a value at an index.
 fn make_item(alloc: Global, by: &Writing, item: &Item, value: &Snap) -> Result<Snap, TreeError>
     requires { IsPlain (view value.now) }
-    ensures made { Answers view result (specs.item_making (goes_by by.now) (item item.now) (view value.now)) }
+    ensures made { Answers view result (specs.item_making (goes_by by.now) (item_of item.now) (view value.now)) }
     ensures plain { Rattle.std.specs.Prelude.IfOk result (λ s. IsPlain (view s)) }
 {
     let path = under_index(alloc, by.node, item.index)?;

@@ -1,5 +1,6 @@
+//! Reconciling and labelling, until the crate that does it stands below this one: the contracts are those that
+//! writes stand on, and the bodies give up.
 ghost use Rattle.std.specs.Prelude.{◌≡◌, IfOk, IfSome, ◌<◌, length, Some};
-ghost use Rattle.std.specs.Option.{option_copied, option_map};
 ghost use Rattle.snap_core.specs.Value.{IsPlain};
 ghost use Rattle.snap_core.specs.View.{view};
 ghost use Rattle.node_core.specs.View as node;
@@ -12,13 +13,12 @@ ghost use Rattle.tree_core.specs.Writing.{setting};
 ghost use Rattle.tree_core.specs.Written.{Added};
 
 use crate::changed::Changed;
-use edit_core::Kind;
-use list_core::Parts;
-use node_core::{Labelled, LoggedEdit, Turn, Way};
-use snap_core::{ModelNo, Name, NodeNo, Snap, TypeNo};
+use node_core::Labelled;
+use snap_core::{Snap, TypeNo};
 use std::alloc::{AllocError, Global};
 use type_core::Types;
 
+/// A value set in the place of an old one.
 pub fn reconcile(
     alloc: Global,
     types: &Types,
@@ -33,6 +33,7 @@ pub fn reconcile(
     Err(AllocError)
 }
 
+/// An item that is set alone.
 pub fn set_item(
     alloc: Global,
     types: &Types,
@@ -47,12 +48,14 @@ pub fn set_item(
     Err(AllocError)
 }
 
+/// A new labelled value, and the number for the next new node.
 #[derive(Debug, Drop)]
 pub struct New {
     pub value: Labelled,
     pub next: usize,
 }
 
+/// A new value with new nodes, numbered from the next number on.
 pub fn label_new(
     alloc: Global,
     types: &Types,
@@ -64,29 +67,4 @@ pub fn label_new(
     ensures { IfOk result (λ w. Added (template (by_first (typing_of types.now.table)) t.0 None (view new.now)) next w) }
 {
     Err(AllocError)
-}
-
-pub fn kind_of(types: &Types, t: TypeNo, v: &Snap) -> Option<Kind>
-    requires { IsPlain (view v.now) }
-    ensures { result ≡ (typing_of types.now.table).kind_of t.0 (view v.now) }
-{
-    None
-}
-
-pub fn type_under(types: &Types, kind: Kind, key: &str) -> TypeNo
-    ensures { result.0 ≡ (typing_of types.now.table).type_under kind key.now }
-{
-    TypeNo(0)
-}
-
-pub fn identifier_of(types: &Types, m: ModelNo) -> Option<&Name>
-    ensures { option_copied result ≡ (typing_of types.now.table).identifier_of m }
-{
-    None
-}
-
-pub fn model_type(types: &Types, m: ModelNo) -> TypeNo
-    ensures { result.0 ≡ Rattle.tree_core.specs.TypesTyping.model_type types.now m }
-{
-    TypeNo(0)
 }

@@ -1,0 +1,91 @@
+//! Writing a tree.
+ghost use Rattle.std.specs.Prelude.{◌≡◌, ◌≤◌, OnOk, OnErr, IfOk, IfErr, None};
+ghost use Rattle.snap_core.specs.Value.{IsPlain};
+ghost use Rattle.snap_core.specs.View.{view};
+ghost use Rattle.edit_core.specs.Logged.{before_log};
+ghost use Rattle.node_core.specs.View.{labelled, edits_of};
+ghost use Rattle.tree_core.specs.Answers.{Answers};
+ghost use Rattle.tree_core.specs.Writing.{written};
+ghost use Rattle.tree_core.specs.Written.{changed};
+ghost use Rattle.tree_core.specs.Recorded.{state_of, new_tree, after_write, tree_in, Leaves, IsSoundValue, IsTreeOf};
+ghost use Rattle.tree_core.specs.State.{rolled_back, mark_of};
+ghost use Rattle.tree_core.specs.Write.{write_of, WritesPlain};
+ghost use Rattle.live_tree.specs.Contents.{state};
+ghost use Rattle.live_tree.specs.Inside.{IsWell};
+
+use crate::tree::Tree;
+use list_core::RoomyParts;
+use patch_core::Patches;
+use snap_core::{NodeNo, Snap};
+use std::alloc::Global;
+use tree_core::{
+    Change, Changed, New, Place, Target, Tree as Whole, TreeError, number_new, write_tree,
+};
+use type_core::Types;
+
+impl Tree {
+    /// A tree of a value, with new nodes.
+    #[tactic(auto, using(crate::proofs::Beginning::new_kept, crate::proofs::Beginning::new_state, crate::proofs::Beginning::new_typed))]
+    pub fn new(alloc: Global, types: &Types, value: Snap) -> Result<Tree, TreeError>
+        requires sound { IsSoundValue types.now (view value) }
+        requires plain { IsPlain (view value) }
+        ensures made { IfOk result (λ tree. state tree ≡ state_of (new_tree types.now (view value))) }
+        ensures typed { IfOk result (λ tree. IsTreeOf types.now (state tree)) }
+        ensures memory { IfErr result (λ error. error ≡ TreeError.Memory) }
+    {
+        let New { value: root, next } = number_new(alloc, types, &value)?;
+        Ok(Tree {
+            root,
+            next,
+            calls: RoomyParts::new(alloc),
+            patches: Patches::new(alloc),
+        })
+    }
+
+    /// Writes one place on behalf of running nodes. After an error all is as before.
+    pub fn write_place(
+        &mut self,
+        alloc: Global,
+        types: &Types,
+        running: &[NodeNo],
+        place: &Place,
+        change: Change,
+    ) -> Result<(), TreeError>
+        requires plain { WritesPlain (write_of change) }
+        ensures outcome { Leaves result (after_write types.now (record { running = running.now; place = place.now; named = None }) (write_of change) (state self.old)) (state self.new) }
+        ensures unchanged { OnErr result (state self.new ≡ state self.old) }
+        ensures undone { OnOk result (rolled_back (mark_of (state self.old)) (state self.new)
+            ≡ record { tree = (state self.old).tree; next = (state self.new).next; calls = (state self.old).calls }) }
+    {
+        let changed = self.change_by(alloc, types, running, place, &change)?;
+        Ok(self.record(alloc, changed)?)
+    }
+
+    /// What a write makes of the tree.
+    #[tactic(auto, using(crate::proofs::Writing::undone, crate::proofs::Writing::well, crate::proofs::Writing::later))]
+    fn change_by(
+        &self,
+        alloc: Global,
+        types: &Types,
+        running: &[NodeNo],
+        place: &Place,
+        change: &Change,
+    ) -> Result<Changed, TreeError>
+        requires plain { WritesPlain (write_of change.now) }
+        ensures outcome { Answers changed result (written types.now (record { running = running.now; place = place.now; named = None }) (write_of change.now) (tree_in (state self.now))) }
+        ensures undone { IfOk result (λ c. before_log (edits_of c.edits) (labelled c.value) ≡ labelled self.now.root) }
+        ensures well { IfOk result (λ c. IsWell c.next (labelled c.value)) }
+        ensures later { IfOk result (λ c. self.now.next ≤ c.next) }
+    {
+        let to = Target {
+            running,
+            place,
+            named: None,
+        };
+        let whole = Whole {
+            root: &self.root,
+            next: self.next,
+        };
+        write_tree(alloc, types, &to, change, &whole)
+    }
+}
