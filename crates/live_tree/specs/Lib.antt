@@ -1,4 +1,3 @@
 pub mod Contents
 pub mod Inside
-pub mod Giving
 pub mod Laws

@@ -3,7 +3,7 @@
 //! ```
 //! let mut tree = Tree::new(alloc, &types, value)?;
 //! let mark = tree.mark();
-//! tree.write_place(alloc, &types, &running, &Place::Item(todos, 0), Change::Remove)?;
+//! tree.write(alloc, &types, &running, &Place::Item(todos, 0), Change::Remove)?;
 //! let patches = tree.log();
 //! tree.roll_back(mark);
 //! ```
@@ -13,8 +13,8 @@
 #![tactic(auto)]
 
 mod call;
-mod calls;
 mod laws;
+mod reading;
 mod recording;
 mod tree;
 mod writing;

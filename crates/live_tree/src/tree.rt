@@ -78,8 +78,8 @@ impl Tree {
         }
     }
 
-    /// The number of the root's node.
-    pub(crate) fn root_number(&self) -> Option<NodeNo>
+    /// The root as a node; none where the tree is a plain value.
+    pub fn root(&self) -> Option<NodeNo>
         ensures { option_map (λ n. n.0) result ≡ option_map (λ l. l.number) (label_of (state self.now).tree) }
     {
         match &self.root {

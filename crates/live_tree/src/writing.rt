@@ -43,7 +43,7 @@ impl Tree {
     }
 
     /// Writes one place on behalf of running nodes. After an error all is as before.
-    pub fn write_place(
+    pub fn write(
         &mut self,
         alloc: Global,
         types: &Types,

@@ -6,10 +6,10 @@ pub mod Nodes
 pub mod Reading
 pub mod Settling
 pub mod Listing
+pub mod Asking
 pub mod Write
 pub mod Writing
 pub mod Errors
 pub mod Answers
 pub mod Written
-pub mod Asking
 pub mod Recorded

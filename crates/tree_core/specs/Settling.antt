@@ -1,19 +1,20 @@
 -- Settling: safe references that lead to no node are cleared, in document order.
 use Rattle.std.specs.Prelude.{ℕ, ◌+◌, List, [], ◌∷◌, ◌++◌, map, Bool, true, false, not, Option, Some, None, if◌then◌else◌}
-use Rattle.std.specs.List.{list_any}
 use Rattle.snap_core.specs.Value.{Value, null}
-use Rattle.snap_core.specs.declared.ident.Ident.{Ident}
 use Rattle.snap_core.specs.declared.number.ModelNo.{ModelNo}
 use Rattle.type_table.specs.Table.{Table, Catalog, shape_at}
 use Rattle.type_table.specs.Identifiers.{is_safe, ident_of}
 use Rattle.type_table.specs.Targets.{target_of}
-use Rattle.type_core.specs.Doubled.{Key, identifiers_of, key_of, same_key}
+use Rattle.type_core.specs.Doubled.{Key}
+use Rattle.type_core.specs.Finding.{met, is_met}
 use Rattle.edit_core.specs.declared.kind.Kind.{Kind}
 use Rattle.edit_core.specs.declared.kind.Kind.TheVariants as kind
 use Rattle.edit_core.specs.Labelled.{Label, Labelled, Branches, Entries, leaf, many, keyed, no_branches, branch, no_entries, entry, bare}
 use Rattle.edit_core.specs.Edit.{to_item, to_entry, remove, replace}
+use Rattle.edit_core.specs.Typing.{Typing}
 use Rattle.edit_core.specs.Logged.{LoggedEdit, behind, after_log}
-use Rattle.tree_core.specs.TypesTyping.{type_under}
+use Rattle.tree_core.specs.TypesTyping.{typing_of, type_under}
+use Rattle.tree_core.specs.Reading.{identifier_in}
 use Rattle.tree_core.specs.Writing.{Tree}
 use Rattle.tree_core.specs.Changed.{Changed}
 
@@ -26,14 +27,9 @@ pub record Settling : Type 0 where
 abbrev pub safe_target : Table → ℕ → Option ModelNo
 safe_target table t = if is_safe (shape_at table t) then target_of table (shape_at table t) else None
 
--- an identifier is some node's of a model; null asks for none
-abbrev pub is_held : List Key → ModelNo → Option Ident → Bool
-is_held keys m (Some i) = list_any (same_key (m, i)) keys
-is_held keys m None = true
-
 -- a value of a type is a safe reference that leads to no node
 abbrev pub leads_nowhere : List Key → Option ModelNo → Value → Bool
-leads_nowhere keys (Some m) v = not (is_held keys m (ident_of (Some v)))
+leads_nowhere keys (Some m) v = not (is_met keys m (ident_of (Some v)))
 leads_nowhere keys None v = false
 
 abbrev pub is_loose : Settling → ℕ → Labelled → Bool
@@ -80,8 +76,27 @@ abbrev mutual
       then cleared kind i k x ∷ entries_settling s kind (behind_cleared kind i) es
       else map (behind (to_entry i k)) (settling_edits s x) ++ entries_settling s kind (i + 1) es
 
+-- The models and identifiers of a tree's nodes, in document order, each once: those met before, and then a value's.
+abbrev pub own_met : Typing → List Key → Kind → Value → List Key
+own_met typing keys (kind.Model m) v = met keys m (identifier_in (typing.identifier_of m) v)
+own_met typing keys kind v = keys
+
+abbrev mutual
+  pub all_met : Typing → List Key → Labelled → List Key
+  all_met typing keys (leaf v) = keys
+  all_met typing keys (many l bs) = items_met typing keys bs
+  all_met typing keys (keyed l es) = entries_met typing (own_met typing keys l.kind (bare (keyed l es))) es
+
+  pub items_met : Typing → List Key → Branches Label → List Key
+  items_met typing keys no_branches = keys
+  items_met typing keys (branch x bs) = items_met typing (all_met typing keys x) bs
+
+  pub entries_met : Typing → List Key → Entries Label → List Key
+  entries_met typing keys no_entries = keys
+  entries_met typing keys (entry k x es) = entries_met typing (all_met typing keys x) es
+
 abbrev pub settling_in : Catalog → Labelled → Settling
-settling_in types root = record { table = types.table; keys = map key_of (identifiers_of types (bare root)) }
+settling_in types root = record { table = types.table; keys = all_met (typing_of types.table) [] root }
 
 -- what settling makes of a tree
 abbrev pub settled : Catalog → Tree → Changed

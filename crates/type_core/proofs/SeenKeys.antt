@@ -1,12 +1,25 @@
 -- A set of identifiers, as the definitions see it.
-use Rattle.std.proofs.Common.{◌≡◌, List, [], ◌∷◌, ◌++◌, map, Bool, true, false, not, if◌then◌else◌, refl, sym, ap, ◌∙◌}
+use Rattle.std.proofs.Common.{◌≡◌, List, [], ◌∷◌, ◌++◌, map, Bool, true, false, ◌&&◌, eqb, not, if◌then◌else◌, refl, sym, ap, ◌∙◌}
 use Rattle.std.specs.List.{list_any}
 use Rattle.type_core.specs.declared.seen.Key.{Key}
 use Rattle.type_core.specs.Doubled.{same_key}
+use Rattle.type_core.specs.declared.seen.Key.TheVariants as key
+use Rattle.type_core.specs.contracts.seen.KeyPartialEq.TheImpl as row
 use Rattle.type_core.specs.Seen.{key_view}
 
+and-false : (b : Bool) → (b && false) ≡ false
+and-false true = refl
+and-false false = refl
+
+-- keys are compared as identifiers of models are
+pub same : (x y : Key) → (row.ghosts).eq x y ≡ same_key (key_view x) (key_view y)
+same (key.Text m s) (key.Text n u) = refl
+same (key.Text m s) (key.Number n z) = sym (and-false (eqb m n))
+same (key.Number m y) (key.Text n u) = sym (and-false (eqb m n))
+same (key.Number m y) (key.Number n z) = refl
+
 module _ (eq : Key → Key → Bool) (same : (x y : Key) → eq x y ≡ same_key (key_view x) (key_view y)) where
-  among-keys : (k : Key) (keys : List Key) → list_any (eq k) keys ≡ list_any (same_key (key_view k)) (map key_view keys)
+  pub among-keys : (k : Key) (keys : List Key) → list_any (eq k) keys ≡ list_any (same_key (key_view k)) (map key_view keys)
   among-keys k [] = refl
   among-keys k (x ∷ keys) = rw (same k x, among-keys k keys) refl
 

@@ -32,6 +32,7 @@ pub use judging::judged;
 pub use limits::fits;
 pub use making::{MakeError, make, make_entry, make_value};
 pub use sameness::types_are_one;
+pub use seen::Seen;
 pub use type_table::{
     Condition, Conditions, Members, ModelType, Properties, Property, Shape, Texts,
 };

@@ -3,7 +3,7 @@ use Rattle.node_core.specs.View.{labelled, edits_of}
 use Rattle.tree_core.specs.State.{State, rolled_back, mark_of}
 use Rattle.live_tree.specs.Contents.{state}
 use Rattle.live_tree.proofs.RollingBack.{led_back}
-use Rattle.live_tree.proofs.tree.Tree.write_place.Goals as goal
+use Rattle.live_tree.proofs.tree.Tree.write.Goals as goal
 
 pub returns-clause-undone : goal.returns-clause-undone
 returns-clause-undone c =

@@ -1,0 +1,9 @@
+pub mod Searching
+pub mod NodeParts
+pub mod InnerTypes
+pub mod Leading
+pub mod NamedPlaces
+pub mod SettlingMoves
+pub mod ClearingSteps
+pub mod SettledPlain
+pub mod SettlingLaws

@@ -1,0 +1,6 @@
+pub mod Searching
+pub mod Seeking
+pub mod Leading
+pub mod Settled
+pub mod Held
+pub mod Clearing
