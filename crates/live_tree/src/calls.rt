@@ -7,7 +7,7 @@ ghost use Rattle.patch_core.specs.Application.{HasValue};
 ghost use Rattle.patch_core.specs.Printing.{HasPlainValues};
 ghost use Rattle.type_core.specs.Made.{refused_as};
 ghost use Rattle.edit_core.specs.Typing.{label_of};
-ghost use Rattle.tree_core.specs.Recorded.{state_of, new_tree, after_write, after_list, after_settling, Leaves, IsSoundValue, IsTreeOf, GoesOn};
+ghost use Rattle.tree_core.specs.Recorded.{state_of, new_tree, after_write, after_list, Leaves, IsSoundValue, IsTreeOf, GoesOn};
 ghost use Rattle.tree_core.specs.State.{patches_of};
 ghost use Rattle.tree_core.specs.Write.{write_of};
 ghost use Rattle.live_tree.specs.Contents.{state};
@@ -49,17 +49,6 @@ impl Tree {
         requires values { All HasValue list.now }
         requires plain { All HasPlainValues list.now }
         ensures outcome { Leaves result (after_list types.now list.now (state self.old)) (state self.new) }
-        ensures unchanged { OnErr result (state self.new ≡ state self.old) }
-        ensures leads { OnOk result (GoesOn (state self.old) (state self.new)) }
-        ensures typed { IsTreeOf types.now (state self.old) → IsTreeOf types.now (state self.new) }
-    {
-        Err(TreeError::Memory)
-    }
-
-    /// Clears the safe references that lead to no node. After want of memory all is as before.
-    pub fn settle(&mut self, alloc: Global, types: &Types) -> Result<(), TreeError>
-        ensures ok { OnOk result (state self.new ≡ after_settling types.now (state self.old)) }
-        ensures memory { IfErr result (λ error. error ≡ TreeError.Memory) }
         ensures unchanged { OnErr result (state self.new ≡ state self.old) }
         ensures leads { OnOk result (GoesOn (state self.old) (state self.new)) }
         ensures typed { IsTreeOf types.now (state self.old) → IsTreeOf types.now (state self.new) }

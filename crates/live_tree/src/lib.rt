@@ -5,6 +5,7 @@ mod call;
 mod calls;
 mod reading;
 mod recording;
+mod settling;
 mod tree;
 mod writing;
 
