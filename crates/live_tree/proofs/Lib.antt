@@ -3,4 +3,4 @@ pub mod RollingBack
 pub mod Recording
 pub mod Writing
 pub mod Beginning
-pub mod Settling
+pub mod SettledTree

@@ -1,5 +1,6 @@
 //! Settling a tree.
 ghost use Rattle.std.specs.Prelude.{◌≡◌, ◌≤◌, OnOk, OnErr, IfOk, IfErr};
+ghost use Rattle.snap_core.specs.Value.{IsPlain};
 ghost use Rattle.edit_core.specs.Labelled.{bare};
 ghost use Rattle.edit_core.specs.Logged.{before_log};
 ghost use Rattle.edit_core.specs.Plain.{IsShort};
@@ -19,7 +20,6 @@ use type_core::Types;
 impl Tree {
     /// Clears the safe references that lead to no node: a property becomes null, a value of a map goes, and so do items
     /// of an array, last to first. After want of memory all is as before.
-    #[tactic(auto, using(crate::proofs::Settling::settled_goes))]
     pub fn settle(&mut self, alloc: Global, types: &Types) -> Result<(), TreeError>
         ensures ok { OnOk result (state self.new ≡ after_settling types.now (state self.old)) }
         ensures memory { IfErr result (λ error. error ≡ TreeError.Memory) }
@@ -31,12 +31,13 @@ impl Tree {
     }
 
     /// What settling makes of the tree.
-    #[tactic(auto, using(crate::proofs::Settling::settled_is, crate::proofs::Settling::settled_back, crate::proofs::Settling::settled_well))]
+    #[tactic(auto, using(crate::proofs::SettledTree::settled_is))]
     fn settled(&self, alloc: Global, types: &Types) -> Result<Changed, AllocError>
         ensures outcome { IfOk result (λ c. changed c ≡ settled types.now (tree_in (state self.now))) }
         ensures undone { IfOk result (λ c. before_log (edits_of c.edits) (labelled c.value) ≡ labelled self.now.root) }
         ensures well { IfOk result (λ c. IsWell c.next (labelled c.value)) }
         ensures later { IfOk result (λ c. self.now.next ≤ c.next) }
+        ensures plain { IsPlain (bare (labelled self.now.root)) }
     {
         let Settled { value, edits } = settle(alloc, types, &self.root)?;
         Ok(Changed {
