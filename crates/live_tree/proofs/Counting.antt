@@ -1,7 +1,7 @@
 -- How many edits and patches a log has.
-use Rattle.std.proofs.Common.{◌≡◌, ℕ, ◌+◌, ◌-◌, ◌≤◌, List, [], ◌∷◌, ◌++◌, length, map, take, reverse, refl, sym, ap, ◌∙◌, length-append}
+use Rattle.std.proofs.Common.{◌≡◌, ◌+◌, [], ◌∷◌, length, refl, ap, ◌∙◌, length-append}
 use Rattle.std.proofs.lemmas.List.{length-map}
-use Rattle.edit_core.specs.Logged.{LoggedEdit, before_log, patch_of_logged}
+use Rattle.edit_core.specs.Logged.{patch_of_logged}
 use Rattle.tree_core.specs.State.{State, Calls, count_of, edits_of, patches_of, mark_of, log_of}
 
 pub length_edits : (calls : Calls) → length (edits_of calls) ≡ count_of calls

@@ -1,6 +1,6 @@
 pub mod Counting
 pub mod RollingBack
-pub mod Recording
-pub mod Writing
+pub mod KeptCalls
+pub mod Changes
 pub mod Beginning
 pub mod SettledTree

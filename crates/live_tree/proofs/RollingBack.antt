@@ -1,8 +1,9 @@
 -- Calls are taken back one by one.
-use Rattle.std.proofs.Common.{◌≡◌, ℕ, ◌+◌, ◌<◌, ◌≤◌, List, [], ◌∷◌, length, cond, leb, refl, sym, ap, ◌∙◌, arith}
+use Rattle.std.proofs.Common.{◌≡◌, ℕ, ◌<◌, ◌≤◌, List, [], ◌∷◌, ◌++◌, leb, refl, sym, ap, ◌∙◌, arith}
 use Rattle.std.proofs.lemmas.Bool.{lt-leb, le-leb, cond-false, cond-true}
 use Rattle.edit_core.specs.Labelled.{Labelled}
 use Rattle.edit_core.specs.Logged.{LoggedEdit, before_log}
+use Rattle.live_tree.specs.Laws.{before_calls, AreEdited}
 use Rattle.tree_core.specs.State.{State, Calls, Past, count_of, mark_of, past_within, rolled_back, without_newest, recorded}
 
 -- while there are more edits than at the mark, the newest call goes
@@ -39,3 +40,18 @@ led_back s value (e ∷ es) after undone =
     let more : mark_of s < mark_of new = omega arith in
     sym (taken_back (mark_of s) new more) ∙ at_mark (mark_of s) old (omega arith)
     ∙ ap (λ (x : Labelled). record { tree = x; next = after; calls = s.calls }) undone
+
+-- more calls have no fewer edits
+at-least : (calls rest : Calls) → count_of rest ≤ count_of (calls ++ rest)
+at-least [] rest = omega arith
+at-least (call ∷ calls) rest = omega (arith, at-least calls rest)
+
+-- however many calls came after a mark, they are taken back
+pub many_back : (s : State) (calls : Calls) (x : Labelled) (next : ℕ) → AreEdited calls → before_calls calls x ≡ s.tree
+    → rolled_back (mark_of s) (record { tree = x; next = next; calls = calls ++ s.calls }) ≡ record { tree = s.tree; next = next; calls = s.calls }
+many_back s [] x next edited led =
+    at_mark (mark_of s) (record { tree = x; next = next; calls = s.calls }) (omega arith) ∙ ap (λ (y : Labelled). record { tree = y; next = next; calls = s.calls }) led
+many_back s ([] ∷ calls) x next edited led = absurd (edited.0 refl)
+many_back s ((e ∷ es) ∷ calls) x next edited led =
+    sym (taken_back (mark_of s) (record { tree = x; next = next; calls = (e ∷ es) ∷ (calls ++ s.calls) }) (omega (arith, at-least calls s.calls)))
+    ∙ many_back s calls (before_log (e ∷ es) x) next edited.1 led

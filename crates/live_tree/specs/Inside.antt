@@ -9,7 +9,7 @@ use Rattle.edit_core.specs.Numbers.{AreNumbered}
 use Rattle.node_core.specs.declared.labelled.Labelled.{Labelled}
 use Rattle.node_core.specs.declared.edit.LoggedEdit.{LoggedEdit}
 use Rattle.node_core.specs.View.{labelled, edits_of}
-use Rattle.tree_core.specs.State.{State, patches_of}
+use Rattle.tree_core.specs.State.{patches_of}
 use Rattle.live_tree.specs.declared.call.Call.{Call}
 use Rattle.live_tree.specs.Contents.{Contents, state}
 

@@ -1,12 +1,25 @@
-//! A typed tree whose nodes keep their identity.
+//! A typed tree whose nodes keep their identity, and what was done to it since the last commit.
+//!
+//! ```
+//! let mut tree = Tree::new(alloc, &types, value)?;
+//! let mark = tree.mark();
+//! tree.write_place(alloc, &types, &running, &Place::Item(todos, 0), Change::Remove)?;
+//! let patches = tree.log();
+//! tree.roll_back(mark);
+//! ```
+//!
+//! After an error a tree is as before. Rolling back gives the very nodes of the mark, takes no memory and can't fail,
+//! and so does `commit`, which forgets what was done. No number is given to two nodes, also not after rolling back.
 #![tactic(auto)]
 
 mod call;
 mod calls;
+mod laws;
 mod reading;
 mod recording;
 mod settling;
 mod tree;
 mod writing;
 
+pub use laws::marks_are_given_back;
 pub use tree::{Mark, Tree};

@@ -18,7 +18,7 @@ use tree_core::Changed;
 
 impl Tree {
     /// Records a change as one call; one without edits leaves all as it is.
-    #[tactic(auto, using(crate::proofs::Recording::kept_more, crate::proofs::Recording::state_more, crate::proofs::Recording::nothing_recorded))]
+    #[tactic(auto, using(crate::proofs::KeptCalls::kept_more, crate::proofs::KeptCalls::state_more, crate::proofs::KeptCalls::nothing_recorded))]
     pub(crate) fn record(&mut self, alloc: Global, change: Changed) -> Result<(), AllocError>
         requires undone { before_log (edits_of change.edits) (labelled change.value) ≡ labelled self.old.root }
         requires well { IsWell change.next (labelled change.value) }

@@ -58,17 +58,18 @@ impl Tree {
             ≡ record { tree = (state self.old).tree; next = (state self.new).next; calls = (state self.old).calls }) }
     {
         let changed = self.change_by(alloc, types, running, place, &change)?;
-        Ok(self.record(alloc, changed)?)
+        self.record(alloc, changed)?;
+        Ok(())
     }
 
     /// What a write makes of the tree.
-    #[tactic(auto, using(crate::proofs::Writing::undone, crate::proofs::Writing::well, crate::proofs::Writing::later))]
-    fn change_by(
+    #[tactic(auto, using(crate::proofs::Changes::undone, crate::proofs::Changes::well, crate::proofs::Changes::later))]
+    fn change_by<'a>(
         &self,
         alloc: Global,
         types: &Types,
-        running: &[NodeNo],
-        place: &Place,
+        running: &'a [NodeNo],
+        place: &'a Place,
         change: &Change,
     ) -> Result<Changed, TreeError>
         requires plain { WritesPlain (write_of change.now) }

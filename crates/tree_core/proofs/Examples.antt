@@ -1,10 +1,8 @@
 -- Writes, computed on examples.
 use Rattle.std.proofs.Common.{◌≡◌, ℕ, List, [], ◌∷◌, ◌++◌, map, false, None, Ok, Err, pos, decimal, refl}
 use Rattle.std.specs.Prelude.{codes}
-use Rattle.snap_core.specs.Value.{Value, null, boolean, integer, text, list, dict, no_parts, part, no_members, member, Items, Fields}
-use Rattle.snap_core.specs.Unview.{snap_of}
+use Rattle.snap_core.specs.Value.{Value, null, boolean, integer, text, list, dict, no_members, member, Fields}
 use Rattle.snap_core.specs.declared.number.NodeNo.{NodeNo}
-use Rattle.pointer_core.specs.Path.{Path}
 use Rattle.pointer_core.specs.declared.refusal.Rule.TheVariants as rule
 use Rattle.patch_core.specs.declared.patch.Patch.{Patch}
 use Rattle.type_core.specs.Making.{Outcome}

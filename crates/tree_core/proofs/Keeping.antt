@@ -1,21 +1,20 @@
 -- What a change keeps: it is a run of edits, no number comes twice, and the value stays plain.
-use Rattle.std.proofs.Common.{◌≡◌, ℕ, ◌+◌, ◌<◌, ◌≤◌, zero, suc, List, [], ◌∷◌, ◌++◌, length, map, take, drop, Bool, true, false, Option, Some, None, refl, sym, ap, subst, ◌∙◌, arith, ⊎_elim, if◌then◌else◌}
+use Rattle.std.proofs.Common.{◌≡◌, ℕ, ◌+◌, ◌<◌, ◌≤◌, List, Bool, true, false, Option, Some, None, refl, sym, ap, subst, ◌∙◌, arith, ⊎_elim, if◌then◌else◌}
 use Rattle.std.proofs.lemmas.Bool.{cases_lt}
-use Rattle.snap_core.specs.Value.{Value, null, boolean, integer, text, list, dict, IsPlain, IsOrdered, Items, Fields}
+use Rattle.snap_core.specs.Value.{Value, null, boolean, integer, text, list, dict, IsPlain, Items, Fields}
 use Rattle.snap_core.proofs.PlainLevels.{IsOrdered-of}
 use Rattle.edit_core.specs.declared.kind.Kind.{Kind}
 use Rattle.edit_core.specs.declared.kind.Kind.TheVariants as kind
-use Rattle.edit_core.specs.Labelled.{Label, Labelled, leaf, many, keyed, Branches, Entries, bare}
-use Rattle.edit_core.specs.Edit.{Edit, Turn, LeadInTurn}
+use Rattle.edit_core.specs.Labelled.{Labelled, leaf, Branches, Entries, bare}
+use Rattle.edit_core.specs.Edit.{Turn, LeadInTurn}
 use Rattle.edit_core.specs.Typing.{Typing, Rules, seen}
 use Rattle.edit_core.specs.Matching.{by_first, same_item}
 use Rattle.edit_core.specs.Template.{Template, NewLabel, template, numbered, new_count, array_template, record_template, item_templates, field_templates}
 use Rattle.edit_core.specs.Numbers.{times, AreNumbered, HasNumbers}
-use Rattle.edit_core.specs.Reconciling.{Setting, Written, written_as, reconciled, item_set}
+use Rattle.edit_core.specs.Reconciling.{Setting, Written, written_as, reconciled}
 use Rattle.edit_core.specs.Between.{edits_between}
-use Rattle.edit_core.specs.Logged.{LoggedEdit, logged, before_log}
-use Rattle.edit_core.specs.Ways.{with_part}
-use Rattle.edit_core.proofs.Leading.{Conditions, FineIn, RunIn, free, fine-free, run-in}
+use Rattle.edit_core.specs.Logged.{before_log}
+use Rattle.edit_core.proofs.Leading.{free, fine-free, run-in}
 use Rattle.edit_core.proofs.Between.{between-runs_in}
 use Rattle.edit_core.proofs.Numbering.{has-numbers, first-once}
 use Rattle.edit_core.proofs.Reconciling.{reconciled-leads}

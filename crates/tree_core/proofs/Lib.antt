@@ -10,3 +10,4 @@ pub mod NodeKeeping
 pub mod WriteKeeping
 pub mod PlaceKeeping
 pub mod Setting
+pub mod Reconciled

@@ -1,11 +1,11 @@
 -- A change of a part, as a change of the whole: the edits lead along.
-use Rattle.std.proofs.Common.{◌≡◌, ℕ, zero, suc, List, [], ◌∷◌, ◌++◌, length, map, Option, Some, None, refl, sym, ap, subst, ◌∙◌}
+use Rattle.std.proofs.Common.{◌≡◌, ℕ, zero, suc, List, [], ◌∷◌, ◌++◌, length, map, Some, refl, sym, ap, subst, ◌∙◌}
 use Rattle.std.specs.Prelude.{slice_get}
 use Rattle.edit_core.specs.Labelled.{Label, Labelled, Entry, Branches, Entries, leaf, many, keyed, no_branches, branch, no_entries, entry, branches, entries, items_in, entries_in}
-use Rattle.edit_core.specs.Edit.{Edit, Turn, Change, to_item, to_entry, whole, within, at_item, at_entry, replace}
+use Rattle.edit_core.specs.Edit.{Edit, Turn, to_item, to_entry, whole, within}
 use Rattle.edit_core.specs.Around.{Around, in_array, in_record, filled, moved_out, standing_in, seen_from}
 use Rattle.edit_core.specs.Application.{item_changed, entry_changed}
-use Rattle.edit_core.specs.Logged.{LoggedEdit, logged}
+use Rattle.edit_core.specs.Logged.{logged}
 use Rattle.edit_core.specs.Ways.{with_part}
 use Rattle.edit_core.proofs.Leading.{Conditions, FineIn, RunIn}
 use Rattle.edit_core.proofs.Patching.{seen-run}

@@ -1,21 +1,19 @@
 -- Parts put in and taken out keep what changes keep.
-use Rattle.std.proofs.Common.{◌≡◌, ℕ, ◌+◌, ◌<◌, ◌≤◌, zero, suc, List, [], ◌∷◌, ◌++◌, length, map, take, drop, Bool, true, false, Option, Some, None, refl, sym, ap, subst, ◌∙◌, arith, ⊎_elim}
+use Rattle.std.proofs.Common.{◌≡◌, ℕ, ◌+◌, ◌<◌, ◌≤◌, List, [], ◌∷◌, ◌++◌, length, take, drop, Some, None, refl, sym, ap, subst, ◌∙◌, arith, ⊎_elim}
 use Rattle.std.specs.Prelude.{slice_get}
 use Rattle.std.proofs.lemmas.Bool.{cases_lt}
 use Rattle.std.proofs.lemmas.List.{take-append-drop, length-take-le}
 use Rattle.snap_core.specs.Value.{Value, IsPlain, ArePlain, ArePlainMembers, ComesBefore, keys_of}
-use Rattle.edit_core.specs.Labelled.{Label, Labelled, Entry, leaf, many, keyed, Branches, Entries, no_branches, branch, branches, entries, items_in, entries_in, bare, bare_items, bare_fields}
-use Rattle.edit_core.specs.Edit.{Edit, Turn, Operation, add, remove, to_item, to_entry, within, at_item, at_entry}
-use Rattle.edit_core.specs.Typing.{Typing}
-use Rattle.edit_core.specs.Matching.{by_first}
-use Rattle.edit_core.specs.Template.{Template, template, numbered as numbered_as, new_count, entry_at}
+use Rattle.edit_core.specs.Labelled.{Label, Labelled, Entry, many, keyed, Branches, Entries, no_branches, branch, branches, entries, items_in, entries_in, bare, bare_items, bare_fields}
+use Rattle.edit_core.specs.Edit.{Edit, add, remove, to_item, to_entry, within, at_item, at_entry}
+use Rattle.edit_core.specs.Template.{Template, numbered as numbered_as, new_count, entry_at}
 use Rattle.edit_core.specs.Numbers.{times, times_in_items, times_in_entries, AreNumbered}
 use Rattle.edit_core.specs.Logged.{LoggedEdit, logged, after_logged}
-use Rattle.edit_core.proofs.Leading.{LeadsIn, RunIn, one_item, one_entry, one_edit, no_edits, free, leads-in}
+use Rattle.edit_core.proofs.Leading.{LeadsIn, one_item, one_entry, one_edit, no_edits, free, leads-in}
 use Rattle.edit_core.proofs.Logged.{logged-after}
 use Rattle.tree_core.specs.Nodes.{to_key}
-use Rattle.tree_core.specs.Changed.{Changed, by_edit, part_added, part_removed}
-use Rattle.tree_core.proofs.Moving.{AboutItem, items-about, AboutEntry, entries-about, in-entries}
+use Rattle.tree_core.specs.Changed.{by_edit, part_added, part_removed}
+use Rattle.tree_core.proofs.Moving.{AboutItem, items-about, AboutEntry, entries-about}
 use Rattle.tree_core.proofs.Keys.{key_before, Room, room}
 use Rattle.tree_core.proofs.Keeping.{Keeps, IsFresh}
 

@@ -1,9 +1,7 @@
 -- The types and values of an office with todos and users, for examples.
-use Rattle.std.proofs.Common.{ℕ, List, [], ◌∷◌, ◌++◌, false, Option, Some, None, pos}
+use Rattle.std.proofs.Common.{ℕ, List, [], ◌∷◌, false, None, pos}
 use Rattle.std.specs.Prelude.{codes}
 use Rattle.snap_core.specs.Value.{Value, null, boolean, integer, text, list, dict, no_parts, part, no_members, member, Items, Fields}
-use Rattle.snap_core.specs.Unview.{snap_of}
-use Rattle.snap_core.specs.declared.snap.Snap.{Snap}
 use Rattle.snap_core.specs.declared.number.TypeNo.{TypeNo}
 use Rattle.snap_core.specs.declared.number.ModelNo.{ModelNo}
 use Rattle.type_table.specs.declared.shape.Shape.{Shape}
@@ -11,7 +9,6 @@ use Rattle.type_table.specs.declared.shape.Shape.TheVariants as shape
 use Rattle.type_table.specs.declared.shape.Property.{Property}
 use Rattle.type_table.specs.declared.shape.ModelType.{ModelType}
 use Rattle.type_table.specs.Table.{Catalog}
-use Rattle.edit_core.specs.Labelled.{Labelled}
 use Rattle.edit_core.specs.Template.{template, numbered, new_count}
 use Rattle.edit_core.specs.Matching.{by_first}
 use Rattle.tree_core.specs.TypesTyping.{typing_of, root_type}

@@ -1,11 +1,11 @@
 -- What another part leaves of the whole: how often each number stands, and that the value is plain.
-use Rattle.std.proofs.Common.{◌≡◌, ℕ, ◌+◌, zero, suc, List, [], ◌∷◌, length, Option, Some, None, refl, sym, ap, subst, ◌∙◌, arith}
+use Rattle.std.proofs.Common.{◌≡◌, ℕ, ◌+◌, zero, suc, List, [], ◌∷◌, Some, refl, sym, ap, subst, arith}
 use Rattle.std.specs.Prelude.{slice_get}
 use Rattle.snap_core.specs.Value.{IsPlain, ArePlain, ArePlainMembers, ComesBefore, keys_of}
 use Rattle.edit_core.specs.Labelled.{Label, Labelled, Entry, Branches, Entries, leaf, many, keyed, no_branches, branch, no_entries, entry, items_in, entries_in, bare, bare_items, bare_fields}
 use Rattle.edit_core.specs.Edit.{Turn, to_item, to_entry}
 use Rattle.edit_core.specs.Application.{item_changed, entry_changed}
-use Rattle.edit_core.specs.Numbers.{times, times_in_items, times_in_entries, one_where}
+use Rattle.edit_core.specs.Numbers.{times, times_in_items, times_in_entries}
 use Rattle.edit_core.specs.Ways.{with_part}
 use Rattle.tree_core.proofs.Moving.{Stands}
 

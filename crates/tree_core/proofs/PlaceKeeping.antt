@@ -1,5 +1,5 @@
 -- What a write makes of a tree keeps what changes keep.
-use Rattle.std.proofs.Common.{◌≡◌, ℕ, ◌+◌, zero, suc, List, [], ◌∷◌, Bool, true, false, Option, Some, None, Ok, Err, IfOk, option_and_then, refl, sym, ap, subst, ◌∙◌, arith, if◌then◌else◌}
+use Rattle.std.proofs.Common.{◌≡◌, ℕ, ◌+◌, suc, List, [], ◌∷◌, Bool, true, false, Option, Some, None, Ok, IfOk, option_and_then, refl, sym, ap, subst, ◌∙◌, arith, if◌then◌else◌}
 use Rattle.std.specs.Prelude.{slice_get, ◌==◌}
 use Rattle.std.specs.Option.{option_map}
 use Rattle.snap_core.specs.Value.{IsPlain}
@@ -16,7 +16,7 @@ use Rattle.tree_core.specs.Nodes.{may_write}
 use Rattle.tree_core.specs.Outcome.{or_refuse}
 use Rattle.tree_core.specs.Write.{Write, WritesPlain}
 use Rattle.tree_core.specs.Changed.{Changed}
-use Rattle.tree_core.specs.Writing.{Tree, Target, Writing, node_no, name_for, writing_at, node_written, written_at, place_written, limited_tree, unless_doubled, undoubled, written}
+use Rattle.tree_core.specs.Writing.{Tree, Target, Writing, node_no, name_for, writing_at, node_written, place_written, limited_tree, unless_doubled, written}
 use Rattle.tree_core.proofs.Moving.{Stands}
 use Rattle.tree_core.proofs.Keeping.{Keeps, keeps-placed, part-numbered}
 use Rattle.tree_core.proofs.PartFacts.{plain-part}

@@ -1,5 +1,5 @@
 -- What is set, put together from what its steps answer.
-use Rattle.std.proofs.Common.{◌≡◌, ℕ, List, [], ◌∷◌, Option, Some, None, Result, Ok, Err, IfOk, sym, ap, ◌∙◌}
+use Rattle.std.proofs.Common.{◌≡◌, ℕ, [], ◌∷◌, Result, Ok, Err, IfOk, sym, ap, ◌∙◌}
 use Rattle.snap_core.specs.Value.{Value}
 use Rattle.type_core.specs.Making.{Outcome}
 use Rattle.edit_core.specs.declared.kind.Kind.{Kind}

@@ -1,5 +1,5 @@
 -- What a write makes of a tree keeps what changes keep.
-use Rattle.std.proofs.Common.{◌≡◌, ℕ, ◌≤◌, List, [], ◌∷◌, length, Bool, true, false, Option, Some, None, Result, Ok, Err, IfOk, IfSome, refl, sym, ap, subst, ◌∙◌, not, if◌then◌else◌}
+use Rattle.std.proofs.Common.{◌≡◌, ℕ, List, [], ◌∷◌, length, Bool, true, false, Option, Some, None, Ok, Err, IfOk, refl, not, if◌then◌else◌}
 use Rattle.std.specs.Prelude.{nat_le, slice_get}
 use Rattle.std.proofs.lemmas.Bool.{leb-true}
 use Rattle.snap_core.specs.Value.{Value, IsPlain}
@@ -10,7 +10,7 @@ use Rattle.pointer_core.specs.declared.refusal.Rule.TheVariants.{Key, Fixed}
 use Rattle.type_table.specs.Table.{Catalog}
 use Rattle.type_table.specs.Identifiers.{ident_in, is_keyed}
 use Rattle.type_core.specs.Judging.{judged_by}
-use Rattle.type_core.specs.Making.{Outcome, Refused, making, maker_of, made_by, limited, keyed as under_key, refused, entry_making}
+use Rattle.type_core.specs.Making.{Outcome, making, maker_of, limited, keyed as under_key, refused, entry_making}
 use Rattle.type_core.specs.Sound.{IsSound}
 use Rattle.type_core.proofs.Again.{making-plain}
 use Rattle.edit_core.specs.declared.kind.Kind.{Kind}
@@ -18,18 +18,16 @@ use Rattle.edit_core.specs.declared.kind.Kind.TheVariants as kind
 use Rattle.edit_core.specs.Labelled.{Label, Labelled, Branches, Entries, leaf, many, keyed, items_in, entries_in, bare}
 use Rattle.edit_core.specs.Edit.{to_item, to_entry}
 use Rattle.edit_core.specs.Typing.{is_kind}
-use Rattle.edit_core.specs.Template.{template, entry_at}
-use Rattle.edit_core.specs.Matching.{by_first}
+use Rattle.edit_core.specs.Template.{entry_at}
 use Rattle.edit_core.specs.Numbers.{AreNumbered}
 use Rattle.tree_core.specs.declared.place.Place.{Place}
 use Rattle.tree_core.specs.declared.place.Place.TheVariants as place
-use Rattle.tree_core.specs.Outcome.{◌>>=◌, refuse, provided, or_refuse, seen_from}
+use Rattle.tree_core.specs.Outcome.{◌>>=◌, provided, or_refuse, seen_from}
 use Rattle.tree_core.specs.Write.{Write, set, insert, remove, WritesPlain}
-use Rattle.tree_core.specs.Changed.{Changed, placed, value_set}
+use Rattle.tree_core.specs.Changed.{Changed, value_set}
 use Rattle.tree_core.specs.Nodes.{place_in}
 use Rattle.tree_core.specs.TypesTyping.{typing_of}
-use Rattle.tree_core.specs.Writing as specs
-use Rattle.tree_core.specs.Writing.{Writing, Entry, Item, typing_in, setting, entry_type, entry_path, item_type, unless_fixed, node_making, entry_set, key_set, held_at, is_renaming, property_set, property_in, property_written, key_put, key_removed, key_written, item_making, item_replaced, item_inserted, item_removed, item_written, whole_set, whole_written, snapshot_in, kind_written, node_written, model_kind, map_kind, array_kind, suited}
+use Rattle.tree_core.specs.Writing.{Writing, Entry, Item, typing_in, setting, entry_type, entry_path, item_type, unless_fixed, node_making, entry_set, key_set, is_renaming, property_set, property_in, property_written, key_put, key_removed, key_written, item_making, item_written, whole_set, whole_written, kind_written, node_written, model_kind, map_kind, array_kind}
 use Rattle.tree_core.proofs.Moving.{Stands}
 use Rattle.tree_core.proofs.Keys.{held}
 use Rattle.tree_core.proofs.Keeping.{Keeps, keeps-set, keeps-item_set, keeps-placed, part-numbered, fresh}

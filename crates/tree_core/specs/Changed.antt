@@ -1,10 +1,9 @@
 -- What a change makes of a labelled value.
 use Rattle.std.specs.Prelude.{ℕ, ◌+◌, List, [], ◌∷◌, ◌++◌, map}
-use Rattle.snap_core.specs.Value.{Value}
 use Rattle.edit_core.specs.Labelled.{Labelled}
-use Rattle.edit_core.specs.Edit.{Turn, Operation, add, remove}
+use Rattle.edit_core.specs.Edit.{Turn, add, remove}
 use Rattle.edit_core.specs.Typing.{Typing}
-use Rattle.edit_core.specs.Template.{Template, template, numbered, new_count}
+use Rattle.edit_core.specs.Template.{Template, numbered, new_count}
 use Rattle.edit_core.specs.Matching.{by_first}
 use Rattle.edit_core.specs.Reconciling.{Setting, Written, reconciled, item_set}
 use Rattle.edit_core.specs.Ways.{with_part}

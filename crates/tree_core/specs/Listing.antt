@@ -1,5 +1,5 @@
 -- Lists of patches: writes on the root's behalf, all or nothing; and lists that are put back.
-use Rattle.std.specs.Prelude.{ℕ, ◌+◌, List, [], ◌∷◌, ◌++◌, length, nat_le, Option, Some, None, Ok}
+use Rattle.std.specs.Prelude.{ℕ, List, [], ◌∷◌, ◌++◌, length, nat_le, Option, Some, None, Ok}
 use Rattle.snap_core.specs.Value.{Value, depth_of}
 use Rattle.snap_core.specs.declared.number.NodeNo.{NodeNo}
 use Rattle.pointer_core.specs.Path.{Path}
@@ -21,7 +21,7 @@ use Rattle.edit_core.specs.Ways.{part_at}
 use Rattle.tree_core.specs.Reading.{way_along}
 use Rattle.tree_core.specs.Outcome.{◌>>=◌, refuse, provided, or_refuse}
 use Rattle.tree_core.specs.Changed.{Changed}
-use Rattle.tree_core.specs.Writing.{Tree, Target, place_written, judged}
+use Rattle.tree_core.specs.Writing.{Tree, place_written, judged}
 
 -- what a patch writes
 abbrev pub write_by : PatchOp → Value → Write

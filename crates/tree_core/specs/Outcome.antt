@@ -1,8 +1,8 @@
 -- Refusals in their order: a rule is judged once those before it are met.
-use Rattle.std.specs.Prelude.{List, ◌++◌, Bool, Option, Some, None, Ok, Err, if◌then◌else◌}
+use Rattle.std.specs.Prelude.{◌++◌, Bool, Option, Some, None, Ok, Err, if◌then◌else◌}
 use Rattle.pointer_core.specs.Path.{Path}
 use Rattle.pointer_core.specs.declared.refusal.Rule.{Rule}
-use Rattle.type_core.specs.Making.{Outcome, Refused}
+use Rattle.type_core.specs.Making.{Outcome}
 
 abbrev pub refuse : {A : Type 0} → Path → Rule → Outcome A
 refuse path rule = Err (record { path = path; rule = rule })

@@ -1,15 +1,12 @@
 -- What stands at the places of a labelled snapshot, and where its nodes stand.
-use Rattle.std.specs.Prelude.{ℕ, List, [], ◌∷◌, length, map, slice_get, Bool, true, false, ◌&&◌, nat_eq, Option, Some, None, option_and_then, if◌then◌else◌}
+use Rattle.std.specs.Prelude.{ℕ, List, [], ◌∷◌, length, map, slice_get, Bool, false, ◌&&◌, nat_eq, Option, Some, None, option_and_then, if◌then◌else◌}
 use Rattle.std.specs.Option.{option_map}
 use Rattle.snap_core.specs.Value.{Value}
 use Rattle.snap_core.specs.declared.ident.Ident.{Ident}
 use Rattle.snap_core.specs.declared.number.ModelNo.{ModelNo}
-use Rattle.snap_core.specs.declared.number.NodeNo.{NodeNo}
 use Rattle.pointer_core.specs.Path.{Path}
 use Rattle.patch_core.specs.Place.{index_below}
-use Rattle.type_table.specs.Table.{Table, shape_at}
-use Rattle.type_table.specs.Identifiers.{is_safe, ident_of}
-use Rattle.type_table.specs.Targets.{target_of}
+use Rattle.type_table.specs.Identifiers.{ident_of}
 use Rattle.type_core.specs.Doubled.{same_ident}
 use Rattle.edit_core.specs.declared.kind.Kind.{Kind}
 use Rattle.edit_core.specs.declared.kind.Kind.TheVariants as kind

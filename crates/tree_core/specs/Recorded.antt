@@ -1,14 +1,13 @@
 -- What calls that change a tree leave of its state: each change is recorded as one call.
-use Rattle.std.specs.Prelude.{◌≡◌, ℕ, List, [], ◌∷◌, ◌++◌, Option, Some, None, Result, Ok, Err}
+use Rattle.std.specs.Prelude.{◌≡◌, List, [], ◌++◌, Some, None, Result, Ok, Err}
 use Rattle.snap_core.specs.Value.{Value}
-use Rattle.pointer_core.specs.Path.{Path}
 use Rattle.patch_core.specs.declared.patch.Patch.{Patch}
 use Rattle.patch_core.specs.Fits.{LeadsTo}
 use Rattle.type_table.specs.Table.{Catalog}
 use Rattle.type_core.specs.Making.{Outcome, making}
 use Rattle.type_core.specs.Made.{refused_as}
 use Rattle.type_core.specs.Doubled.{identifiers_of, doubled_of}
-use Rattle.edit_core.specs.Labelled.{Label, Labelled, bare}
+use Rattle.edit_core.specs.Labelled.{bare}
 use Rattle.edit_core.specs.Labelling.{IsLabelledBy}
 use Rattle.edit_core.specs.Numbers.{AreNumbered}
 use Rattle.edit_core.specs.Template.{template, numbered, new_count}

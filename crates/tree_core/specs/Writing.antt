@@ -1,8 +1,7 @@
 -- Writing one place: what a write makes of the node that it is written to, or the first rule that it doesn't meet.
-use Rattle.std.specs.Prelude.{ℕ, List, [], ◌∷◌, ◌++◌, length, map, slice_get, Bool, true, false, ◌&&◌, ◌||◌, not, unwrap_or, nat_le, Option, Some, None, Ok, Err, decimal, if◌then◌else◌}
+use Rattle.std.specs.Prelude.{ℕ, List, [], ◌∷◌, ◌++◌, length, map, slice_get, Bool, true, false, ◌&&◌, ◌||◌, not, unwrap_or, nat_le, Option, Some, None, Ok, decimal, if◌then◌else◌}
 use Rattle.std.specs.Str.{bytes_eq}
-use Rattle.snap_core.specs.Value.{Value, integer, text, list, dict}
-use Rattle.snap_core.specs.declared.number.ModelNo.{ModelNo}
+use Rattle.snap_core.specs.Value.{Value, integer, text}
 use Rattle.snap_core.specs.declared.number.NodeNo.{NodeNo}
 use Rattle.pointer_core.specs.Path.{Path}
 use Rattle.pointer_core.specs.declared.refusal.Rule.TheVariants as rule
@@ -12,7 +11,7 @@ use Rattle.type_core.specs.Doubled.{identifiers_of, doubled_of}
 use Rattle.edit_core.specs.declared.kind.Kind.{Kind}
 use Rattle.edit_core.specs.declared.kind.Kind.TheVariants as kind
 use Rattle.edit_core.specs.Comparing.{is_equal}
-use Rattle.edit_core.specs.Labelled.{Labelled, leaf, many, keyed, bare}
+use Rattle.edit_core.specs.Labelled.{Labelled, many, keyed, bare}
 use Rattle.edit_core.specs.Edit.{Turn, to_item}
 use Rattle.edit_core.specs.Typing.{Typing, label_of, kind_in, field_at, is_kind}
 use Rattle.edit_core.specs.Template.{template, entry_at}

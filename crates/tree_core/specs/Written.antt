@@ -4,6 +4,7 @@ use Rattle.edit_core.specs.Template.{Template, numbered, new_count}
 use Rattle.node_core.specs.View.{labelled, edits_of}
 use Rattle.tree_core.specs.declared.changed.Changed.{Changed}
 use Rattle.tree_core.specs.declared.reconciling.New.{New}
+use Rattle.reconcile_core.specs.Setting.{LoggedWriting}
 use Rattle.tree_core.specs.Changed as specs
 use Rattle.tree_core.specs.Writing as specs_of
 use Rattle.tree_core.specs.declared.writing.Writing.{Writing}
@@ -16,6 +17,10 @@ use Rattle.std.specs.Option.{option_map}
 
 abbrev pub changed : Changed → specs.Changed
 changed c = record { value = labelled c.value; edits = edits_of c.edits; next = c.next }
+
+-- what reconciling wrote, as a change
+abbrev pub changed_as : LoggedWriting → specs.Changed
+changed_as w = record { value = w.value; edits = w.edits; next = w.next }
 
 -- a new value, its numbers drawn from the next one on
 pub record Added (new : Template) (next : ℕ) (given : New) : Type 0 where

@@ -1,4 +1,16 @@
-//! Writing to a tree of nodes that keep their identity: what a write leaves, and why it is refused.
+//! Writes to a tree of nodes that keep their identity: what a write makes of a labelled snapshot, or the first rule
+//! that it doesn't meet. The definitions of settling, of patch lists and of the reading calls stand here too.
+//!
+//! ```
+//! let to = Target { running: &running, place: &Place::Prop(node, name), named: None };
+//! let changed = write_tree(alloc, &types, &to, &Change::Set(value), &Tree { root: &root, next })?;
+//! let after = changed.value;                  // with its nodes' labels
+//! for edit in changed.edits.as_slice() { .. } // what leads there
+//! ```
+//!
+//! An answer is exactly that of the definition `written`: `dead`, `protected`, `kind`, `path`, `operation`, `index`,
+//! `fixed`, what making refuses, `large` and `identifier` in this order, each with its place. Nothing is edited in
+//! place, so an error changes nothing.
 #![tactic(auto)]
 
 mod changed;

@@ -11,9 +11,10 @@ ghost use Rattle.tree_core.specs.Writing.{node_making};
 
 use crate::error::{TreeError, refuse};
 use crate::paths::joined;
-use crate::typing::{kind_of, model_type};
+use crate::typing::model_type;
 use edit_core::Kind;
 use pointer_core::{Pointer, Refusal, Rule};
+use reconcile_core::kind_of;
 use snap_core::{Snap, TypeNo};
 use std::alloc::Global;
 use type_core::{MakeError, Types, make, make_entry};

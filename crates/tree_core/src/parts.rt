@@ -9,8 +9,8 @@ ghost use Rattle.std.specs.Str.{bytes_eq};
 ghost use Rattle.tree_core.specs.Nodes as specs;
 ghost use Rattle.tree_core.specs.TypesTyping.{typing_of};
 
-use crate::typing::type_under;
 use node_core::{Labelled, LabelledField, Turn};
+use reconcile_core::type_under;
 use snap_core::{Txt, TypeNo};
 use std::alloc::{AllocError, Global};
 use type_core::Types;

@@ -1,4 +1,4 @@
-use Rattle.std.proofs.Common.{◌≡◌, length, ap, ◌∙◌}
+use Rattle.std.proofs.Common.{length, ap, ◌∙◌}
 use Rattle.tree_core.specs.State.{mark_of}
 use Rattle.live_tree.specs.Contents.{state}
 use Rattle.live_tree.specs.Inside.{contents}

@@ -1,4 +1,4 @@
-use Rattle.std.proofs.Common.{◌≡◌, sym, ap, subst, ◌∙◌, arith}
+use Rattle.std.proofs.Common.{sym, ◌∙◌, arith}
 use Rattle.live_tree.specs.Contents.{state}
 use Rattle.live_tree.proofs.RollingBack.{at_mark}
 use Rattle.live_tree.proofs.tree.Tree.roll_back.Goals as goal

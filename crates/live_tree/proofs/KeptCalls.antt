@@ -1,18 +1,16 @@
 -- One call more is kept.
-use Rattle.std.proofs.Common.{◌≡◌, ℕ, ◌≤◌, List, [], ◌∷◌, ◌++◌, length, map, reverse, refl, sym, ap, subst, ◌∙◌, arith}
+use Rattle.std.proofs.Common.{◌≡◌, ℕ, ◌≤◌, List, [], ◌∷◌, ◌++◌, map, reverse, refl, sym, ap, subst, ◌∙◌, arith}
 use Rattle.std.proofs.lemmas.List.{map-append, reverse-append}
-use Rattle.snap_core.specs.Value.{IsPlain}
 use Rattle.patch_core.specs.declared.patch.Patch.{Patch}
 use Rattle.edit_core.specs.Labelled as edits
 use Rattle.edit_core.specs.Labelled.{bare}
 use Rattle.edit_core.specs.Logged.{before_log, patch_of_logged}
-use Rattle.edit_core.specs.Numbers.{AreNumbered}
 use Rattle.node_core.specs.declared.labelled.Labelled.{Labelled}
 use Rattle.node_core.specs.declared.edit.LoggedEdit.{LoggedEdit}
 use Rattle.node_core.specs.View.{labelled, edits_of}
 use Rattle.tree_core.specs.State.{State, Calls, patches_of, recorded}
 use Rattle.live_tree.specs.declared.call.Call.{Call}
-use Rattle.live_tree.specs.Contents.{Contents, state}
+use Rattle.live_tree.specs.Contents.{state}
 use Rattle.live_tree.specs.Inside.{IsWell, AreKept, IsKept, contents, edits_in}
 
 -- numbers that are below one are below a later one
@@ -51,6 +49,15 @@ module _ (root : Labelled) (next : ℕ) (calls : List Call) (patches : List Patc
             (ap (λ ps. ps ++ map patch_of_logged (edits_of es)) kept.logged
             ∙ sym (map-append patch_of_logged _ (edits_of es)));
       }
+
+  -- likewise, of what the calls of the code left
+  pub kept_by : (root2 value2 : Labelled) (cs : List Call) (ps : List Patch) → root2 ≡ root → value2 ≡ value → cs ≡ calls ++ record { edits = es; before = root2 } ∷ []
+      → ps ≡ patches ++ map patch_of_logged (edits_of es) → IsKept (contents value2 after cs) cs ps
+  kept_by root2 value2 cs ps same new e f =
+      let P : List Call → Type 0 = λ cs. IsKept (contents value after cs) cs (patches ++ map patch_of_logged (edits_of es)) in
+      let Q : List Patch → Type 0 = λ ps. IsKept (contents value after cs) cs ps in
+      let R : Labelled → Type 0 = λ v. IsKept (contents v after cs) cs ps in
+      subst R (sym new) (subst Q (sym f) (subst P (sym (e ∙ ap (λ (r : Labelled). calls ++ record { edits = es; before = r } ∷ []) same)) kept_more))
 
 -- a change with edits is one call more, and one without leaves all as it is
 recorded-some : (value : Labelled) (after : ℕ) (call : List LoggedEdit) (s : State) → (call ≡ [] → ⊥)

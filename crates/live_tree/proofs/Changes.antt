@@ -1,10 +1,9 @@
 -- What a write leaves can be recorded.
-use Rattle.std.proofs.Common.{◌≡◌, ℕ, ◌≤◌, List, Option, Some, None, Result, Ok, Err, IfOk, sym, ap, subst, ◌∙◌}
-use Rattle.snap_core.specs.Value.{IsPlain}
+use Rattle.std.proofs.Common.{◌≡◌, ℕ, ◌≤◌, Result, Ok, Err, IfOk, sym, ap, subst, ◌∙◌}
 use Rattle.type_table.specs.Table.{Catalog}
 use Rattle.type_core.specs.Sound.{IsSound}
 use Rattle.type_core.specs.Making.{Outcome}
-use Rattle.edit_core.specs.Labelled.{Labelled, bare}
+use Rattle.edit_core.specs.Labelled.{Labelled}
 use Rattle.edit_core.specs.Logged.{before_log}
 use Rattle.node_core.specs.View.{labelled, edits_of}
 use Rattle.tree_core.specs.declared.error.TreeError.{TreeError}
@@ -14,7 +13,7 @@ use Rattle.tree_core.specs.Changed as specs
 use Rattle.tree_core.specs.Answers.{Answers}
 use Rattle.tree_core.specs.Written.{changed}
 use Rattle.tree_core.specs.Write.{Write, WritesPlain}
-use Rattle.tree_core.specs.Writing.{Target, Tree, written}
+use Rattle.tree_core.specs.Writing.{Target, written}
 use Rattle.tree_core.specs.Outcome.{◌>>=◌}
 use Rattle.tree_core.specs.State.{State}
 use Rattle.tree_core.specs.Recorded.{tree_in, with_change, after_write, Leaves}

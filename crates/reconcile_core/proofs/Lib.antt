@@ -1,0 +1,4 @@
+pub mod Plainness
+pub mod Matchings
+pub mod Labellings
+pub mod Writings

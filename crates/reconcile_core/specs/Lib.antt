@@ -1,0 +1,4 @@
+pub mod RealTypes
+pub mod Slots
+pub mod Labelling
+pub mod Setting
