@@ -3,3 +3,4 @@ pub mod RollingBack
 pub mod KeptCalls
 pub mod Changes
 pub mod Beginning
+pub mod SettledTree

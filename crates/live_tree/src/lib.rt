@@ -16,6 +16,7 @@ mod call;
 mod laws;
 mod reading;
 mod recording;
+mod settling;
 mod tree;
 mod writing;
 
