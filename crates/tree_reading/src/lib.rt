@@ -1,4 +1,16 @@
 //! Reading a tree of nodes that keep their identity, and settling it.
+//!
+//! ```
+//! let n = resolved(&root, &types, user, &identifier);
+//! let kind = kind_at(&root, n);
+//! let title = show(alloc, &root, &Pointer::parse(alloc, "/todos/0/title")?)?;
+//! let owner = follow(alloc, &root, &types, &Pointer::parse(alloc, "/todos/0/owner")?)?;
+//! let Settled { value, edits } = settle(alloc, &types, &root)?;
+//! ```
+//!
+//! Nothing is copied to be read: what gives a value, a pointer or a place takes memory for that alone, and the other
+//! calls take none. Frozen values and references aren't entered. Settling's edits lead from the tree to the one without
+//! its loose references, and back again with all nodes.
 #![tactic(auto)]
 
 mod clearing;
