@@ -1,0 +1,40 @@
+//! Cases as data, over trees whose nodes keep their identity. A line of `data/writes.txt` is one of these, and empty
+//! or a comment where it begins with `#`:
+//!
+//! - `schema FILE`: the schema of what follows;
+//! - `tree VALUE`: a new tree, of what the root's model makes of the value;
+//! - `CALL => OUTCOME`: a call of the tree, and what it comes to.
+//!
+//! Each case that comes out otherwise is printed, and so is each line that is no case; the last line counts. With
+//! a word, the table in the file of that name is judged in place of that of `data/`.
+#![tactic(auto)]
+
+mod calls;
+mod fault;
+mod long;
+mod places;
+mod printing;
+mod session;
+mod table;
+mod tally;
+
+use crate::tally::Tally;
+use std::rt::Env;
+use std::{env, io};
+
+fn main(rt: HostRuntime) -> io::Result<()> {
+    let mut tally = Tally::new();
+    match given_table(&rt)? {
+        Some(name) => table::run(&rt, &mut tally, name.as_str())?,
+        None => table::run(&rt, &mut tally, "writes.txt")?,
+    }
+    println!(rt; "{tally}")
+}
+
+// The first word behind the program's name.
+fn given_table<R: Env + AllocGlobal>(rt: &R) -> io::Result<Option<String>> {
+    for word in env::args(rt)?.skip(1) {
+        return Ok(Some(word));
+    }
+    Ok(None)
+}
