@@ -7,10 +7,10 @@ ghost use Rattle.tree_core.specs.Settling as specs;
 ghost use Rattle.tree_reading.specs.Clearing.{goes_by};
 
 use crate::loose::{Clearing, is_loose};
-use crate::typing::type_under;
 use edit_core::Kind;
 use list_core::Parts;
 use node_core::{Labelled, LabelledField, LoggedEdit, Operation, Turn, Way};
+use reconcile_core::type_under;
 use snap_core::{Snap, TypeNo};
 use std::alloc::{AllocError, Global};
 

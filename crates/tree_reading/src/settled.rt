@@ -7,10 +7,10 @@ ghost use Rattle.tree_reading.specs.Settled as specs;
 
 use crate::clearing::item_type;
 use crate::loose::{Clearing, is_loose};
-use crate::typing::type_under;
 use edit_core::Kind;
 use list_core::Parts;
 use node_core::{Entries, Items, Labelled, LabelledField};
+use reconcile_core::type_under;
 use snap_core::{Snap, TypeNo};
 use std::alloc::{AllocError, Global};
 

@@ -9,8 +9,8 @@ ghost use Rattle.tree_core.specs.Nodes as specs;
 ghost use Rattle.tree_core.specs.Asking as asking;
 ghost use Rattle.tree_core.specs.TypesTyping.{typing_of, root_type};
 
-use edit_core::Kind;
 use node_core::{Labelled, Turn};
+use reconcile_core::type_under;
 use snap_core::{ModelNo, TypeNo};
 use type_core::{Shape, Types};
 
@@ -49,16 +49,6 @@ pub fn part_type(types: &Types, from: &Labelled, key: &str) -> TypeNo
     match from.label() {
         Some(label) => type_under(types, label.kind, key),
         None => TypeNo(0),
-    }
-}
-
-/// The type of the parts of a node of a kind under a key.
-pub fn type_under(types: &Types, kind: Kind, key: &str) -> TypeNo
-    ensures { result.0 ≡ (typing_of types.now.table).type_under kind key.now }
-{
-    match kind {
-        Kind::Model(m) => types.property_type(m, key).unwrap_or(TypeNo(0)),
-        Kind::Array(of) | Kind::Map(of) => of,
     }
 }
 
