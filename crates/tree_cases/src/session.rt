@@ -4,7 +4,7 @@ ghost use Rattle.list_core.specs.Outcome.{Gives};
 ghost use Rattle.snap_core.specs.Value.{IsPlain};
 ghost use Rattle.snap_core.specs.View.{view};
 ghost use Rattle.type_core.specs.Doubled.{identifiers_of, doubled_of};
-ghost use Rattle.tree_core.specs.TypesTyping.{root_type as root_no};
+ghost use Rattle.tree_core.specs.TypesTyping.{root_type as root_no, model_type as model_no};
 
 use crate::fault::Fault;
 use expr_core::Schema;
@@ -12,7 +12,7 @@ use list_core::Parts;
 use live_tree::{Mark, Tree};
 use pointer_core::{Refusal, Rule};
 use schema_read::read_schema;
-use snap_core::{NodeNo, Snap, TypeNo};
+use snap_core::{ModelNo, NodeNo, Snap, TypeNo};
 use snap_json::read_snap;
 use std::alloc::Global;
 use type_core::{Types, doubled, make};
@@ -106,5 +106,15 @@ fn once(alloc: Global, types: &Types, made: Snap) -> Result<Snap, Fault>
 fn root_type(types: &Types) -> TypeNo
     ensures { result.0 ≡ root_no types.now }
 {
-    types.model_type(types.root())
+    own_type(types, types.root())
+}
+
+/// A model's own type.
+fn own_type(types: &Types, m: ModelNo) -> TypeNo
+    ensures { result.0 ≡ model_no types.now m }
+{
+    match types.own_type(m) {
+        Some(t) => t,
+        None => TypeNo(0),
+    }
 }
