@@ -18,9 +18,16 @@ pub fn told(alloc: Global, found: Result<Snap, Fault>, wants: &str) -> Result<St
 }
 
 fn shown(alloc: Global, value: &Snap, wants: &str) -> Result<String, AllocError> {
+    if is_wanted(alloc, value, wants) {
+        return String::from_str(alloc, wants);
+    }
+    format!(in alloc; "{value:?}")
+}
+
+fn is_wanted(alloc: Global, value: &Snap, wants: &str) -> bool {
     match read_snap(alloc, wants.as_bytes()) {
-        Ok(wanted) if wanted.equal(value) => String::from_str(alloc, wants),
-        _ => format!(in alloc; "{value:?}"),
+        Ok(wanted) => wanted.equal(value),
+        Err(_) => false,
     }
 }
 
