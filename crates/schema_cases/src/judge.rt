@@ -23,6 +23,8 @@ pub enum Judge {
     Name,
     /// Schema files.
     Schema,
+    /// Schema files, which come to the root's name and how many steps of history are kept.
+    Held,
 }
 
 /// What a text comes to: `ok` or what it is read as, or why it isn't read.
@@ -34,6 +36,7 @@ pub fn outcome(alloc: Global, judge: Judge, text: &str) -> Result<String, AllocE
         Judge::Measure => measure(alloc, text),
         Judge::Name => name(alloc, text),
         Judge::Schema => schema(alloc, text),
+        Judge::Held => held(alloc, text),
     }
 }
 
@@ -118,6 +121,17 @@ fn name(alloc: Global, text: &str) -> Result<String, AllocError> {
 fn schema(alloc: Global, text: &str) -> Result<String, AllocError> {
     match read_schema(alloc, text.as_bytes()) {
         Ok(_) => String::from_str(alloc, "ok"),
+        Err(error) => fault(alloc, &error),
+    }
+}
+
+fn held(alloc: Global, text: &str) -> Result<String, AllocError> {
+    match read_schema(alloc, text.as_bytes()) {
+        Ok(schema) => {
+            let root = schema.types().name(schema.root()).text();
+            let history = schema.history();
+            format!(in alloc; "{root} {history}")
+        }
         Err(error) => fault(alloc, &error),
     }
 }
