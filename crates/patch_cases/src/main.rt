@@ -7,12 +7,10 @@
 
 mod judge;
 mod table;
-mod tally;
 
 use crate::judge::Judge;
-use crate::tally::Tally;
-use std::rt::Env;
-use std::{env, io};
+use case_tables::{Tally, given_table};
+use std::io;
 
 fn main(rt: HostRuntime) -> io::Result<()> {
     let mut tally = Tally::new();
@@ -24,12 +22,4 @@ fn main(rt: HostRuntime) -> io::Result<()> {
         }
     }
     println!(rt; "{tally}")
-}
-
-// The first word behind the program's name.
-fn given_table<R: Env + AllocGlobal>(rt: &R) -> io::Result<Option<String>> {
-    for word in env::args(rt)?.skip(1) {
-        return Ok(Some(word));
-    }
-    Ok(None)
 }

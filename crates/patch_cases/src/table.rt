@@ -1,6 +1,6 @@
 //! Tables of texts.
 use crate::judge::{Judge, outcome};
-use crate::tally::{Place, Tally};
+use case_tables::{Place, Tally, is_comment};
 use std::rt::Files;
 use std::{fs, io};
 
@@ -17,7 +17,7 @@ pub fn run<R: Files + Print + AllocGlobal>(
             table,
             line: at.saturating_add(1),
         };
-        if !line.is_empty() && !line.starts_with('#') {
+        if !is_comment(line) {
             judge_line(rt, tally, &place, judge, line)?;
         }
     }

@@ -6,13 +6,11 @@
 #![tactic(auto)]
 
 mod judge;
-mod long;
 mod making;
 mod table;
-mod tally;
 
 use crate::judge::Judge;
-use crate::tally::Tally;
+use case_tables::Tally;
 use std::io;
 
 fn main(rt: HostRuntime) -> io::Result<()> {

@@ -4,9 +4,7 @@ ghost use Rattle.snap_core.specs.Value.{IsPlain};
 ghost use Rattle.snap_core.specs.View.{view};
 
 use crate::judge::{compact, fault, misread, refused};
-use crate::long::written_out;
-use crate::table::is_comment;
-use crate::tally::{Place, Tally};
+use case_tables::{Place, Tally, is_comment, written_out};
 use expr_core::Schema;
 use schema_read::read_schema;
 use snap_core::Snap;

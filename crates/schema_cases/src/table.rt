@@ -1,7 +1,6 @@
 //! Tables of texts.
 use crate::judge::{Judge, outcome};
-use crate::long::written_out;
-use crate::tally::{Place, Tally};
+use case_tables::{Place, Tally, is_comment, written_out};
 use std::rt::Files;
 use std::{fs, io};
 
@@ -23,11 +22,6 @@ pub fn run<R: Files + Print + AllocGlobal>(
         }
     }
     Ok(())
-}
-
-/// Whether a line is empty or a comment.
-pub fn is_comment(line: &str) -> bool {
-    line.is_empty() || line.starts_with('#')
 }
 
 fn judge_line<R: Print + AllocGlobal>(

@@ -11,16 +11,13 @@
 
 mod calls;
 mod fault;
-mod long;
 mod places;
 mod printing;
 mod session;
 mod table;
-mod tally;
 
-use crate::tally::Tally;
-use std::rt::Env;
-use std::{env, io};
+use case_tables::{Tally, given_table};
+use std::io;
 
 fn main(rt: HostRuntime) -> io::Result<()> {
     let mut tally = Tally::new();
@@ -29,12 +26,4 @@ fn main(rt: HostRuntime) -> io::Result<()> {
         None => table::run(&rt, &mut tally, "writes.txt")?,
     }
     println!(rt; "{tally}")
-}
-
-// The first word behind the program's name.
-fn given_table<R: Env + AllocGlobal>(rt: &R) -> io::Result<Option<String>> {
-    for word in env::args(rt)?.skip(1) {
-        return Ok(Some(word));
-    }
-    Ok(None)
 }

@@ -1,9 +1,8 @@
 //! Tables of texts.
 use crate::fault::Fault;
-use crate::long::written_out;
 use crate::printing::told;
 use crate::session::Ground;
-use crate::tally::{Place, Tally};
+use case_tables::{Place, Tally, is_comment, written_out};
 use std::rt::Files;
 use std::{fs, io};
 
@@ -20,7 +19,7 @@ pub fn run<R: Files + Print + AllocGlobal>(
             table,
             line: at.saturating_add(1),
         };
-        if !line.is_empty() && !line.starts_with('#') {
+        if !is_comment(line) {
             judge_line(rt, tally, &place, &mut ground, line)?;
         }
     }

@@ -1,3 +1,4 @@
+//! What has been judged, and where.
 use std::{fmt, io};
 
 /// What has been judged so far.
