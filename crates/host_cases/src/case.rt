@@ -1,11 +1,10 @@
 //! A case as a block of lines tells it.
 //!
 //! A line is a key, a blank and a value, and a key that isn't there has what stands for it below.
-//! `schema FILE` or `text TEXT` is the contents of `schema.json`, each `input TEXT` a link and each
-//! `body TEXT` a link with a request to `/check`; `reply TEXT` is what must be written to the first
-//! link, or `answer CODE TEXT` the reply with this body.
-use crate::text::{bytes_of, push_bytes};
-use edge_core::{Calls, Inputs};
+//! `schema FILE` or `text TEXT` is the contents of `schema.json`, and `words` are those of the command
+//! line. What links bring, and what must be written to them, stands in lines that `links` reads.
+use crate::text::bytes_of;
+use edge_core::Calls;
 use list_core::Parts;
 use snap_core::{Bytes, Txt};
 use std::alloc::{AllocError, Global};
@@ -15,16 +14,21 @@ const KEYS: &[&str] = &[
     "schema",
     "text",
     "words",
+    "link",
     "input",
     "body",
+    "ask",
+    "reply",
+    "answer",
+    "gets",
+    "gets-last",
     "cut",
+    "all-cuts",
     "piece",
     "space",
     "fail-world",
     "fail-door",
     "status",
-    "reply",
-    "answer",
     "out",
     "err",
 ];
@@ -35,8 +39,8 @@ pub fn is_line(line: &str) -> bool {
     KEYS.contains(&key)
 }
 
-// The key and the value of a line.
-fn parts_of(line: &str) -> (&str, &str) {
+/// The key and the value of a line.
+pub fn parts_of(line: &str) -> (&str, &str) {
     line.split_once(' ').unwrap_or((line, ""))
 }
 
@@ -76,65 +80,7 @@ pub fn words_of(alloc: Global, block: &str) -> Result<Parts<Txt>, AllocError> {
     Ok(words)
 }
 
-/// What the links bring.
-pub fn inputs_of(alloc: Global, block: &str) -> Result<Inputs, AllocError> {
-    let mut inputs = Inputs::new(alloc);
-    for line in block.lines() {
-        let (key, value) = parts_of(line);
-        if key == "input" {
-            inputs.push(bytes_of(alloc, value)?)?;
-        } else if key == "body" {
-            inputs.push(request_of(alloc, value)?)?;
-        }
-    }
-    Ok(inputs)
-}
-
 /// The one call that fails, where its number stands under a key.
 pub fn calls_of(alloc: Global, block: &str, key: &str) -> Result<Calls, AllocError> {
     Calls::from_slice(alloc, &[u64::from(number_of(block, key, 0))])
-}
-
-/// What must be written to the first link.
-pub fn reply_of(alloc: Global, block: &str) -> Result<Bytes, AllocError> {
-    match value_of(block, "answer") {
-        Some(answer) => answer_of(alloc, answer),
-        None => text_of(alloc, block, "reply"),
-    }
-}
-
-// A request to `/check` with this body.
-fn request_of(alloc: Global, text: &str) -> Result<Bytes, AllocError> {
-    let body = bytes_of(alloc, text)?;
-    let head = format!(in alloc;
-        "POST /check HTTP/1.1\r\nContent-Length: {}\r\n\r\n",
-        body.len()
-    )?;
-    joined(alloc, head.as_str(), &body)
-}
-
-// The reply with a status and this body.
-fn answer_of(alloc: Global, value: &str) -> Result<Bytes, AllocError> {
-    let (status, text) = parts_of(value);
-    let phrase = phrase_of(status);
-    let body = bytes_of(alloc, text)?;
-    let head = format!(in alloc;
-        "HTTP/1.1 {status} {phrase}\r\nContent-Type: application/json\r\nContent-Length: {}\r\n\r\n",
-        body.len()
-    )?;
-    joined(alloc, head.as_str(), &body)
-}
-
-fn phrase_of(status: &str) -> &str {
-    match status {
-        "200" => "OK",
-        "400" => "Bad Request",
-        _ => "Unprocessable Entity",
-    }
-}
-
-fn joined(alloc: Global, head: &str, body: &Bytes) -> Result<Bytes, AllocError> {
-    let mut bytes = Bytes::from_slice(alloc, head.as_bytes())?;
-    push_bytes(&mut bytes, body.as_slice())?;
-    Ok(bytes)
 }

@@ -4,11 +4,13 @@
 #![tactic(auto)]
 
 mod case;
+mod links;
 mod run;
 mod slow_door;
 mod text;
 
-use crate::case::{is_line, number_of, reply_of, text_of, value_of};
+use crate::case::{is_line, number_of, text_of, value_of};
+use crate::links::links_of;
 use crate::run::outcome_of;
 use snap_core::Bytes;
 use std::io::Print;
@@ -21,9 +23,15 @@ const TABLES: &[&str] = &[
     "files.cases",
     "links.cases",
     "failures.cases",
+    "requests.cases",
+    "faults.cases",
+    "ports.cases",
     "shelf.cases",
     "office.cases",
 ];
+
+/// How many bytes a read takes at most, where a case is run with all of these.
+const ALL_CUTS: &[u32] = &[1, 7, 1000];
 
 fn main(rt: HostRuntime) -> io::Result<()> {
     let mut cases = 0u64;
@@ -59,50 +67,58 @@ fn try_lines<R: Print>(rt: &R, table: &str, number: u64, block: &str) -> io::Res
     Ok(())
 }
 
-// Runs the case of a block, and prints what is other than it wants.
+// Runs the case of a block, as often as it asks for.
 fn try_block<R: Files + AllocGlobal + Print>(
     rt: &R,
     table: &str,
     number: u64,
     block: &str,
 ) -> io::Result<()> {
+    if value_of(block, "all-cuts").is_none() {
+        return try_cut(rt, table, number, block, number_of(block, "cut", 1000));
+    }
+    for cut in ALL_CUTS {
+        try_cut(rt, table, number, block, *cut)?;
+    }
+    Ok(())
+}
+
+// Runs the case of a block with reads of so many bytes, and prints what is other than it wants.
+fn try_cut<R: Files + AllocGlobal + Print>(
+    rt: &R,
+    table: &str,
+    number: u64,
+    block: &str,
+    cut: u32,
+) -> io::Result<()> {
     let alloc = rt.alloc();
-    let outcome = outcome_of(alloc, schema_of(rt, block)?, block)?;
+    let links = links_of(alloc, block)?;
+    let outcome = outcome_of(alloc, schema_of(rt, block)?, block, links.as_slice(), cut)?;
     let status = number_of(block, "status", 0);
     if u32::from(outcome.status) != status {
         println!(rt; "{table} {number}: status {}, not {status}", outcome.status)?;
     }
-    tell(
-        rt,
-        table,
-        number,
-        "reply",
-        &outcome.reply,
-        &reply_of(alloc, block)?,
-    )?;
-    tell(
-        rt,
-        table,
-        number,
-        "next link",
-        &outcome.next,
-        &Bytes::new(alloc),
-    )?;
+    for (at, link) in links.iter().enumerate() {
+        let found = outcome.door.written(at).unwrap_or(b"");
+        tell(rt, table, number, "reply", found, link.wanted.as_slice())?;
+    }
+    let out = text_of(alloc, block, "out")?;
     tell(
         rt,
         table,
         number,
         "out",
-        &outcome.out,
-        &text_of(alloc, block, "out")?,
+        outcome.world.out(),
+        out.as_slice(),
     )?;
+    let err = text_of(alloc, block, "err")?;
     tell(
         rt,
         table,
         number,
         "err",
-        &outcome.err,
-        &text_of(alloc, block, "err")?,
+        outcome.world.err(),
+        err.as_slice(),
     )
 }
 
@@ -123,13 +139,13 @@ fn tell<R: AllocGlobal + Print>(
     table: &str,
     number: u64,
     what: &str,
-    found: &Bytes,
-    wanted: &Bytes,
+    found: &[u8],
+    wanted: &[u8],
 ) -> io::Result<()> {
-    if found.as_slice() == wanted.as_slice() {
+    if found == wanted {
         return Ok(());
     }
-    let found = String::from_utf8_lossy(rt.alloc(), found.as_slice())?;
-    let wanted = String::from_utf8_lossy(rt.alloc(), wanted.as_slice())?;
+    let found = String::from_utf8_lossy(rt.alloc(), found)?;
+    let wanted = String::from_utf8_lossy(rt.alloc(), wanted)?;
     println!(rt; "{table} {number}: {what} is {found:?}, not {wanted:?}")
 }

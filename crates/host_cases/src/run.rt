@@ -1,9 +1,10 @@
 //! The run that a case asks for.
 ghost use Rattle.std.specs.Prelude.{◌≡◌, IfOk, is_some, false};
 
-use crate::case::{calls_of, inputs_of, number_of, words_of};
+use crate::case::{calls_of, number_of, words_of};
+use crate::links::LinkCase;
 use crate::slow_door::SlowDoor;
-use edge_core::{Files, MemoryDoor, MemoryWorld};
+use edge_core::{Files, Inputs, MemoryDoor, MemoryWorld};
 use snap_core::{Bytes, Txt};
 use std::alloc::{AllocError, Global};
 use top_call::host;
@@ -11,43 +12,30 @@ use top_call::host;
 /// The room for standard output, and for standard error.
 const WORLD_SPACE: usize = 1000;
 
-/// What came of a run: the status, what was written to the first link and to the second, and to
-/// standard output and standard error.
+/// What came of a run: the status, and the world and the door as it left them.
 #[derive(Drop)]
 pub struct Outcome {
     pub status: u8,
-    pub reply: Bytes,
-    pub next: Bytes,
-    pub out: Bytes,
-    pub err: Bytes,
+    pub world: MemoryWorld,
+    pub door: MemoryDoor,
 }
 
-/// Runs the program as a case gives it.
-pub fn outcome_of(alloc: Global, schema: Bytes, block: &str) -> Result<Outcome, AllocError> {
+/// Runs the program as a case gives it, with reads of so many bytes at most.
+pub fn outcome_of(
+    alloc: Global,
+    schema: Bytes,
+    block: &str,
+    links: &[LinkCase],
+    cut: u32,
+) -> Result<Outcome, AllocError> {
     let words = words_of(alloc, block)?;
     let mut world = world_of(alloc, schema, block)?;
-    let mut door = door_of(alloc, block)?;
+    let mut door = door_of(alloc, block, links, cut)?;
     let status = status_of(alloc, words.as_slice(), &mut world, &mut door);
-    left_by(alloc, status, &world, &door.door)
-}
-
-// What a run left.
-fn left_by(
-    alloc: Global,
-    status: u8,
-    world: &MemoryWorld,
-    door: &MemoryDoor,
-) -> Result<Outcome, AllocError> {
-    let reply = Bytes::from_slice(alloc, door.written(0).unwrap_or(b""))?;
-    let next = Bytes::from_slice(alloc, door.written(1).unwrap_or(b""))?;
-    let out = Bytes::from_slice(alloc, world.out())?;
-    let err = Bytes::from_slice(alloc, world.err())?;
     Ok(Outcome {
         status,
-        reply,
-        next,
-        out,
-        err,
+        world,
+        door: door.door,
     })
 }
 
@@ -76,15 +64,29 @@ fn world_of(alloc: Global, schema: Bytes, block: &str) -> Result<MemoryWorld, Al
 }
 
 // A door of the links of a case, of which none is open.
-fn door_of(alloc: Global, block: &str) -> Result<SlowDoor<MemoryDoor>, AllocError>
+fn door_of(
+    alloc: Global,
+    block: &str,
+    links: &[LinkCase],
+    cut: u32,
+) -> Result<SlowDoor<MemoryDoor>, AllocError>
     ensures { IfOk result (λ door. is_some door.door.links.current ≡ false) }
 {
-    let inputs = inputs_of(alloc, block)?;
-    let cut = number_of(block, "cut", 1000) as usize;
-    let space = number_of(block, "space", 1000) as usize;
+    let inputs = inputs_of(alloc, links)?;
+    let cut = cut as usize;
+    let space = number_of(block, "space", 100_000) as usize;
     let fails = calls_of(alloc, block, "fail-door")?;
     Ok(SlowDoor {
         door: MemoryDoor::new(alloc, inputs, cut.max(1), space, fails)?,
         most: number_of(block, "piece", 1000) as usize,
     })
+}
+
+// What the links bring.
+fn inputs_of(alloc: Global, links: &[LinkCase]) -> Result<Inputs, AllocError> {
+    let mut inputs = Inputs::new(alloc);
+    for link in links {
+        inputs.push(Bytes::from_slice(alloc, link.input.as_slice())?)?;
+    }
+    Ok(inputs)
 }

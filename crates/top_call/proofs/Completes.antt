@@ -1,71 +1,32 @@
--- A whole request on a link gets its reply.
-use Rattle.std.proofs.Common.{◌≡◌, ℕ, ◌<◌, ◌⊎◌, inl, inr, List, [], ◌∷◌, ◌++◌, length, length-append, append-nil, Option, Some, None, refl, sym, ◌∙◌, ap, subst, arith}
+-- A check of a schema, and whole requests on links, come to what they ask for.
+use Rattle.std.proofs.Common.{◌≡◌, ℕ, ◌<◌, ◌⊎◌, inl, inr, List, length, Option, Some, None, refl, sym, ◌∙◌, ap, subst, arith}
 use Rattle.std.specs.Prelude.{IsSomeAnd}
-use Rattle.http_front.specs.Arrival.{whole, partial, Arrives}
-use Rattle.http_front.specs.Reply.{printed}
 use Rattle.http_front.specs.Request.{Request}
-use Rattle.http_front.specs.Laws.{WholeIsOnly, WholeIsShort, NothingIsPartial}
 use Rattle.edge_core.specs.World.{WorldState, WorldHasFailed}
-use Rattle.edge_core.specs.Door.{Links, DoorHasFailed, BothTold}
-use Rattle.type_table.specs.Table.{Catalog}
-use Rattle.top_call.specs.declared.exit.Exit.{Exit}
-use Rattle.top_call.specs.declared.exit.Exit.TheVariants.{Done, Checked, Usage, Unread, Syntax, Refused, DoorFailed, Memory, Inside}
-use Rattle.top_call.specs.Exit.{exit_code}
-use Rattle.top_call.specs.Link.{AnswersBytes, written_for, status_for, reply_to}
+use Rattle.edge_core.specs.Door.{DoorHasFailed}
 use Rattle.pointer_core.specs.declared.schema_rule.SchemaRule.{SchemaRule}
 use Rattle.snap_json.specs.Loose.{loosely}
 use Rattle.expr_core.specs.Schema.{Schema}
 use Rattle.schema_read.specs.Schema.{IsSchema, Spells}
-use Rattle.top_call.specs.Words.{Command, check, run, name_in}
-use Rattle.top_call.specs.Serving.{most_bytes, Served, AnswersLink, EndsWith}
-use Rattle.top_call.specs.Run.{Run, Files, IfFile, IfSchemaFile, IsTooLong, IsFileOf, IsSchemaOf, IsNoJson, IsFaulty, IsAnswered, Causes, FileIsGiven, SchemaIsGiven, RequestIsGiven, IsReplied, IsRun, IsCheck}
 use Rattle.schema_read.specs.Laws.{SchemaHasNoFault, FileIsOneSchema}
+use Rattle.serve_core.specs.Laws.{DoorCompletes, FaultsAreCounted}
+use Rattle.serve_core.specs.Serving.{ServesDoor}
+use Rattle.serve_core.specs.declared.plan.Plan.{Plan}
+use Rattle.serve_core.specs.declared.plan.ServeEnd.{ServeEnd}
+use Rattle.serve_core.specs.declared.plan.ServeEnd.TheVariants as end
+use Rattle.top_call.specs.Answering.{replies}
+use Rattle.top_call.specs.declared.exit.Exit.{Exit}
+use Rattle.top_call.specs.declared.exit.Exit.TheVariants.{Done, Checked, Usage, Unread, Syntax, Refused, DoorFailed, Memory, Inside}
+use Rattle.top_call.specs.Exit.{exit_code}
+use Rattle.top_call.specs.Words.{Command, check, run, serve, name_in, plan_of}
+use Rattle.top_call.specs.Run.{Run, Files, IfFile, IfSchemaFile, IsTooLong, IsFileOf, IsNoJson, IsFaulty, Causes, FileIsGiven, SchemaIsGiven, RequestsAreGiven, AreReplied, Served, serving_of, IsServed, ServesBy, IsCheck}
 
--- the laws of the crates below: one whole request is the only answer to its bytes, which are few, and no bytes are none; a
--- schema has no fault, and a file is one schema
+-- the laws of the crates below: whole requests are answered, faults are counted; a schema has no fault, and a file is one schema
 pub record Laws : Type 0 where
-  pub whole_is_only : WholeIsOnly
-  pub whole_is_short : WholeIsShort
-  pub nothing_is_partial : NothingIsPartial
+  pub door_completes : DoorCompletes replies
+  pub faults_are_counted : FaultsAreCounted replies
   pub schema_has_no_fault : SchemaHasNoFault
   pub file_is_one_schema : FileIsOneSchema
-
--- a link that brought one whole request brought no more
-all_came : (laws : Laws) (came left input : List ℕ) (request : Request) → came ++ left ≡ input → (left ≡ []) ⊎ (length came ≡ most_bytes) → Arrives input (whole request []) → left ≡ []
-all_came laws came left input request e (inl none) arrives = none
-all_came laws came left input request e (inr full) arrives =
-    absurd (omega (arith, full, laws.whole_is_short input request arrives, ap length e, length-append came left))
-
--- the bytes that came are answered as the request that they are
-whole_answered : (laws : Laws) (types : Catalog) (came written : List ℕ) (request : Request) (status : ℕ) → Arrives came (whole request []) → AnswersBytes types came written status
-    → (written ≡ printed request.close (reply_to types request)) × (status ≡ 0)
-whole_answered laws types [] written request status arrives answers =
-    absurd (let none : whole request [] ≡ partial = laws.nothing_is_partial (whole request []) arrives in cc)
-whole_answered laws types (b ∷ bytes) written request status arrives answers =
-    let same : answers.0 ≡ whole request [] = laws.whole_is_only (b ∷ bytes) request [] answers.0 arrives answers.1 in
-    (answers.2 ∙ ap (written_for types) same, answers.3 ∙ ap status_for same)
-
--- links of which the next one got a reply
-abbrev pub Replied : List ℕ → Option Links → Option Links → Type 0
-Replied reply before after = (came : List ℕ) × BothTold (Served came [] reply) before after
-
--- what a request that is given got
-replied : (laws : Laws) (types : Catalog) (links after : Links) (input : List ℕ) (request : Request) (rest : List (List ℕ)) (status : ℕ) → links.coming ≡ input ∷ rest
-    → Arrives input (whole request []) → AnswersLink types status links after → (status ≡ 0) × Replied (printed request.close (reply_to types request)) (Some links) (Some after)
-replied laws types links after input request rest status next arrives answers =
-    let inputs : answers.came ++ answers.left ≡ input = (let e : (answers.came ++ answers.left) ∷ after.coming ≡ input ∷ rest = sym answers.served.next ∙ next in cc) in
-    let none : answers.left ≡ [] = all_came laws answers.came answers.left input request inputs answers.all arrives in
-    let whole_input : answers.came ≡ input = sym (append-nil answers.came) ∙ ap (λ xs. answers.came ++ xs) (sym none) ∙ inputs in
-    let gets = whole_answered laws types answers.came answers.written request status (subst (λ xs. Arrives xs (whole request [])) (sym whole_input) arrives) answers.answers in
-    let served : Served answers.came [] answers.written links after = subst (λ xs. Served answers.came xs answers.written links after) none answers.served in
-    (gets.1, (answers.came, subst (λ xs. Served answers.came [] xs links after) gets.0 served))
-
--- an answer to the link of a request that is given
-ends_replied : (laws : Laws) (types : Catalog) (links : Links) (after : Option Links) (input : List ℕ) (request : Request) (rest : List (List ℕ)) (status : ℕ) → links.coming ≡ input ∷ rest
-    → Arrives input (whole request []) → BothTold (EndsWith types status) (Some links) after → (status ≡ 0) × Replied (printed request.close (reply_to types request)) (Some links) after
-ends_replied laws types links None input request rest status next arrives ends = absurd ends
-ends_replied laws types links (Some after) input request rest status next arrives (inl none) = absurd (let e : [] ≡ input ∷ rest = sym none.0.none_left ∙ next in cc)
-ends_replied laws types links (Some after) input request rest status next arrives (inr answers) = replied laws types links after input request rest status next arrives answers
 
 -- a fact of the file that is given
 of_file : (files : Files) (name file : List ℕ) (P : List ℕ → Type 0) → FileIsGiven files name file → IfFile files name P → P file
@@ -98,25 +59,6 @@ of_named r command P named fact =
     subst (λ (c : Option Command). IsSomeAnd c (λ c. IfFile r.world_before.files (name_in c) P)) named fact in
     there
 
--- what a run by a file that is given got
-answered_given : (laws : Laws) (r : Run) (types : Catalog) (request : Request) (given : RequestIsGiven r types request) (status : ℕ) → IsAnswered r status
-    → (status ≡ 0) × IsReplied r (printed request.close (reply_to types request))
-answered_given laws r types request given status answered =
-    let ours : IsSchemaOf answered.types given.file =
-    of_file r.world_before.files given.name given.file (IsSchemaOf answered.types) given.given (of_named r (run given.name) (IsSchemaOf answered.types) given.named answered.schema) in
-    let one : ours.0 ≡ given.schema.0 = laws.file_is_one_schema given.file ours.0 given.schema.0 ours.1.spells given.schema.1.spells in
-    let same : answered.types ≡ types = sym ours.2 ∙ ap (λ (schema : Schema). schema.types) one ∙ given.schema.2 in
-    let replies : printed request.close (reply_to answered.types request) ≡ printed request.close (reply_to types request) =
-    ap (λ (types : Catalog). printed request.close (reply_to types request)) same in
-    let ends : BothTold (EndsWith answered.types status) (Some given.links) r.door_after.links =
-    subst (λ o. BothTold (EndsWith answered.types status) o r.door_after.links) given.links_told answered.ends in
-    let gets : (status ≡ 0) × Replied (printed request.close (reply_to answered.types request)) (Some given.links) r.door_after.links =
-    ends_replied laws answered.types given.links r.door_after.links given.input request given.rest status given.next given.arrives ends in (
-      gets.0,
-      subst (λ o. Replied (printed request.close (reply_to types request)) o r.door_after.links) (sym given.links_told)
-          (subst (λ reply. Replied reply (Some given.links) r.door_after.links) replies gets.1),
-    )
-
 -- the exits of a run by a schema file that is given, with no fault of the world's: none of them refuses the file
 module _ (r : Run) (command : Command) (named : r.command ≡ Some command) (file : List ℕ) (given : FileIsGiven r.world_before.files (name_in command) file)
     (schema : Schema) (is : IsFileOf schema file) where
@@ -135,6 +77,15 @@ module _ (r : Run) (command : Command) (named : r.command ≡ Some command) (fil
   never_faulty : (laws : Laws) (pointer : List ℕ) (rule : SchemaRule) → IfSchemaFile r (IsFaulty pointer rule) → ⊥
   never_faulty laws pointer rule faulty = not-faulty r.world_before.files (name_in command) file given schema is laws pointer rule (taken (IsFaulty pointer rule) faulty)
 
+-- a check serves nothing
+serves_not : (name : List ℕ) (plan : Plan) → ServesBy (Some (check name)) plan → ⊥
+serves_not name plan by = (let e : None ≡ Some plan = by in cc)
+
+checks_not : (command : Command) (plan : Plan) → plan_of command ≡ Some plan → IsCheck (Some command) → ⊥
+checks_not (check name) plan by is = serves_not name plan by
+checks_not (run name) plan by is = is
+checks_not (serve name port links) plan by is = is
+
 check_completes : (laws : Laws) (r : Run) (exit : Exit) → Causes r exit → SchemaIsGiven r → ¬ (WorldHasFailed r.world_before r.world_after)
     → (exit_code exit ≡ 7) ⊎ (exit_code exit ≡ 0)
 check_completes laws r Memory cause given world = inl refl
@@ -147,46 +98,85 @@ check_completes laws r Unread cause given world = elim cause.1 [
 check_completes laws r Syntax cause given world = absurd (never_other r (check given.name) given.named given.file given.given given.schema.0 given.schema.1 cause)
 check_completes laws r (Refused pointer rule) cause given world =
     absurd (never_faulty r (check given.name) given.named given.file given.given given.schema.0 given.schema.1 laws pointer rule cause)
-check_completes laws r Done cause given world = absurd (subst IsRun given.named cause.is_run)
-check_completes laws r Inside cause given world = absurd (subst IsRun given.named cause.is_run)
-check_completes laws r DoorFailed cause given world = absurd (subst IsRun given.named cause.1.is_run)
+check_completes laws r Done cause given world = absurd (serves_not given.name cause.served.plan (subst (λ c. ServesBy c cause.served.plan) given.named cause.serves_by))
+check_completes laws r Inside cause given world = absurd (serves_not given.name cause.served.plan (subst (λ c. ServesBy c cause.served.plan) given.named cause.serves_by))
+check_completes laws r DoorFailed cause given world = absurd (serves_not given.name cause.served.plan (subst (λ c. ServesBy c cause.served.plan) given.named cause.serves_by))
 
-run_completes : (laws : Laws) (r : Run) (exit : Exit) → Causes r exit → (types : Catalog) (request : Request) → RequestIsGiven r types request
+-- what was served is what is given
+module _ (laws : Laws) (r : Run) (schema : Schema) (requests : List (List Request)) (given : RequestsAreGiven r schema requests) (outcome : ServeEnd) (x : IsServed r outcome) where
+  same_plan : x.served.plan ≡ given.plan
+  same_plan =
+      let by : plan_of given.command ≡ Some x.served.plan = subst (λ (c : Option Command). ServesBy c x.served.plan) given.named x.serves_by in
+      let e : Some x.served.plan ≡ Some given.plan = sym by ∙ given.serves_by in
+      cc
+
+  same_schema : x.served.schema ≡ schema
+  same_schema =
+      let ours : IsFileOf x.served.schema given.file =
+      of_file r.world_before.files (name_in given.command) given.file (IsFileOf x.served.schema) given.given
+      (of_named r given.command (IsFileOf x.served.schema) given.named x.file) in
+      laws.file_is_one_schema given.file x.served.schema schema ours.spells given.is_schema.spells
+
+  same_served : x.served ≡ record { plan = given.plan; schema = schema; last = x.served.last }
+  same_served =
+      ap (λ (plan : Plan). record { plan = plan; schema = x.served.schema; last = x.served.last }) same_plan
+      ∙ ap (λ (s : Schema). record { plan = given.plan; schema = s; last = x.served.last }) same_schema
+
+  pub served_completes : ¬ (DoorHasFailed r.door_before r.door_after) → (outcome ≡ end.Memory) ⊎ ((outcome ≡ end.Done) × AreReplied r schema requests given)
+  served_completes door =
+      let ours : Served = record { plan = given.plan; schema = schema; last = x.served.last } in
+      elim (laws.door_completes (serving_of r ours) outcome given.links requests
+      (subst (λ (served : Served). ServesDoor replies (serving_of r served) outcome) same_served x.door)
+      (record { told = given.told; inputs = given.inputs }) door) [
+        | inl memory ↦ inl memory
+        | inr done ↦ inr (done.0, (x.served.last, done.1))
+      ]
+
+-- the exits of a command that serves, by a schema file that is given, with no fault of the world's
+serve_completes : (laws : Laws) (r : Run) (exit : Exit) → Causes r exit → (schema : Schema) (requests : List (List Request)) (given : RequestsAreGiven r schema requests)
     → ¬ (WorldHasFailed r.world_before r.world_after) → ¬ (DoorHasFailed r.door_before r.door_after)
-    → (exit_code exit ≡ 7) ⊎ ((exit_code exit ≡ 0) × IsReplied r (printed request.close (reply_to types request)))
-run_completes laws r Memory cause types request given world door = inl refl
-run_completes laws r Checked cause types request given world door = absurd (subst IsCheck given.named cause.0)
-run_completes laws r Usage cause types request given world door =
-    absurd (never_none r (run given.name) given.named given.file given.given given.schema.0 given.schema.1 cause)
-run_completes laws r Unread cause types request given world door = elim cause.1 [
+    → (exit_code exit ≡ 7) ⊎ ((exit_code exit ≡ 0) × AreReplied r schema requests given)
+serve_completes laws r Memory cause schema requests given world door = inl refl
+serve_completes laws r Checked cause schema requests given world door =
+    absurd (checks_not given.command given.plan given.serves_by (subst IsCheck given.named cause.0))
+serve_completes laws r Usage cause schema requests given world door =
+    absurd (never_none r given.command given.named given.file given.given schema given.is_schema cause)
+serve_completes laws r Unread cause schema requests given world door = elim cause.1 [
   | inl failed ↦ absurd (world failed)
-  | inr long ↦ absurd (never_long r (run given.name) given.named given.file given.given given.schema.0 given.schema.1 long)
+  | inr long ↦ absurd (never_long r given.command given.named given.file given.given schema given.is_schema long)
 ]
-run_completes laws r Syntax cause types request given world door =
-    absurd (never_other r (run given.name) given.named given.file given.given given.schema.0 given.schema.1 cause)
-run_completes laws r (Refused pointer rule) cause types request given world door =
-    absurd (never_faulty r (run given.name) given.named given.file given.given given.schema.0 given.schema.1 laws pointer rule cause)
-run_completes laws r Done cause types request given world door = inr (answered_given laws r types request given 0 cause)
-run_completes laws r Inside cause types request given world door = absurd (omega (arith, (answered_given laws r types request given 9 cause).0))
-run_completes laws r DoorFailed cause types request given world door = absurd (door cause.0)
+serve_completes laws r Syntax cause schema requests given world door =
+    absurd (never_other r given.command given.named given.file given.given schema given.is_schema cause)
+serve_completes laws r (Refused pointer rule) cause schema requests given world door =
+    absurd (never_faulty r given.command given.named given.file given.given schema given.is_schema laws pointer rule cause)
+serve_completes laws r Done cause schema requests given world door = elim (served_completes laws r schema requests given end.Done cause door) [
+  | inl memory ↦ absurd (let e : end.Done ≡ end.Memory = memory in cc)
+  | inr done ↦ inr (refl, done.1)
+]
+serve_completes laws r Inside cause schema requests given world door = elim (served_completes laws r schema requests given end.Inside cause door) [
+  | inl memory ↦ absurd (let e : end.Inside ≡ end.Memory = memory in cc)
+  | inr done ↦ absurd (let e : end.Inside ≡ end.Done = done.0 in cc)
+]
+serve_completes laws r DoorFailed cause schema requests given world door =
+    absurd (door (laws.faults_are_counted (serving_of r cause.served) end.Fault cause.door refl))
 
 -- the same of what a run was given, whatever the world told after it
 given_schema : (r : Run) (told : WorldState) → SchemaIsGiven r → SchemaIsGiven (record r { world_after = told })
 given_schema r told x = record { name = x.name; file = x.file; named = x.named; given = x.given; schema = x.schema }
 
-given_request : (r : Run) (told : WorldState) (types : Catalog) (request : Request) → RequestIsGiven r types request → RequestIsGiven (record r { world_after = told }) types request
-given_request r told types request x = record {
-  name = x.name;
-  file = x.file;
+given_requests : (r : Run) (told : WorldState) (schema : Schema) (requests : List (List Request)) → RequestsAreGiven r schema requests
+    → RequestsAreGiven (record r { world_after = told }) schema requests
+given_requests r told schema requests x = record {
+  command = x.command;
   named = x.named;
+  plan = x.plan;
+  serves_by = x.serves_by;
+  file = x.file;
   given = x.given;
-  schema = x.schema;
+  is_schema = x.is_schema;
   links = x.links;
-  links_told = x.links_told;
-  input = x.input;
-  rest = x.rest;
-  next = x.next;
-  arrives = x.arrives;
+  told = x.told;
+  inputs = x.inputs;
 }
 
 pub checks-all : (laws : Laws) (r : Run) (told : WorldState) (exit : Exit) → Causes (record r { world_after = told }) exit → SchemaIsGiven r
@@ -194,8 +184,9 @@ pub checks-all : (laws : Laws) (r : Run) (told : WorldState) (exit : Exit) → C
 checks-all laws r told exit cause given world = check_completes laws (record r { world_after = told }) exit cause (given_schema r told given) world
 
 pub completes : (laws : Laws) (r : Run) (told : WorldState) (exit : Exit) → Causes (record r { world_after = told }) exit
-    → (types : Catalog) (request : Request) → RequestIsGiven r types request
+    → (schema : Schema) (requests : List (List Request)) (given : RequestsAreGiven r schema requests)
     → ¬ (WorldHasFailed r.world_before told) → ¬ (DoorHasFailed r.door_before r.door_after)
-    → (exit_code exit ≡ 7) ⊎ ((exit_code exit ≡ 0) × IsReplied r (printed request.close (reply_to types request)))
-completes laws r told exit cause types request given world door =
-    run_completes laws (record r { world_after = told }) exit cause types request (given_request r told types request given) world door
+    → (exit_code exit ≡ 7) ⊎ ((exit_code exit ≡ 0) × AreReplied r schema requests given)
+unfolding given_requests
+completes laws r told exit cause schema requests given world door =
+    serve_completes laws (record r { world_after = told }) exit cause schema requests (given_requests r told schema requests given) world door

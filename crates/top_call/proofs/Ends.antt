@@ -2,13 +2,12 @@
 use Rattle.std.proofs.Common.{◌≡◌, ℕ, ◌≤◌, ◌⊎◌, inl, inr, List, [], ◌∷◌, Option, Some, None, refl, sym, ◌∙◌, ap, subst, lit<, arith}
 use Rattle.std.specs.Prelude.{Contains}
 use Rattle.edge_core.specs.World.{WorldState, KeepsFiles, Gets}
-use Rattle.edge_core.specs.Door.{DoorState}
 use Rattle.top_call.specs.declared.exit.Exit.{Exit}
 use Rattle.top_call.specs.declared.exit.Exit.TheVariants.{Done, Checked, Usage, Unread, Syntax, Refused, DoorFailed, Memory, Inside}
 use Rattle.top_call.specs.Words.{Command}
 use Rattle.top_call.specs.Exit.{exit_code, told_err, told_out}
 use Rattle.top_call.specs.Report.{Ending, Tells, Reports}
-use Rattle.top_call.specs.Run.{Run, Causes, LeavesDoor, AsksForSchema, AsksForNoOther, AsksForNoPort, Ends}
+use Rattle.top_call.specs.Run.{Run, Causes, LeavesDoor, AsksForSchema, AsksForNoOther, Ends}
 use Rattle.top_call.specs.RunInside.{IsEarly}
 
 -- each exit's code is a status
@@ -60,18 +59,6 @@ no-other None exit old new asked same e = e ∙ ap (λ (w : WorldState). w.asked
 no-other (Some c) exit old new asked (inl asks) e = inr (e ∙ asks.asked)
 no-other (Some c) exit old new asked (inr early) e = inl (e ∙ ap (λ (w : WorldState). w.asked) early.1)
 
-no-port : (r : Run) (exit : Exit) → LeavesDoor r exit → AsksForNoPort r.door_before.asked r.door_after.asked
-no-port r Done door = inr door.1
-no-port r Inside door = inr door.1
-no-port r DoorFailed door = inr door
-no-port r Memory (inl same) = inl (ap (λ (d : DoorState). d.asked) same)
-no-port r Memory (inr served) = inr served.2
-no-port r Usage same = inl (ap (λ (d : DoorState). d.asked) same)
-no-port r Unread same = inl (ap (λ (d : DoorState). d.asked) same)
-no-port r Syntax same = inl (ap (λ (d : DoorState). d.asked) same)
-no-port r (Refused pointer rule) same = inl (ap (λ (d : DoorState). d.asked) same)
-no-port r Checked same = inl (ap (λ (d : DoorState). d.asked) same)
-
 -- an exit that is told by 2, 3 or 4 is early
 early_code : (exit : Exit) → (exit_code exit ≡ 2) ⊎ ((exit_code exit ≡ 3) ⊎ (exit_code exit ≡ 4)) → IsEarly exit
 early_code Done is = elim is [ inl two ↦ omega (arith, two) | inr more ↦ elim more [ inl three ↦ omega (arith, three) | inr four ↦ omega (arith, four) ] ]
@@ -104,9 +91,6 @@ module _ (r : Run) (status : ℕ) (ends : Ends r status) where
 
   pub ends-asked_files : AsksForNoOther r.command r.world_before.asked r.world_after.asked
   ends-asked_files = no-other r.command ends.exit r.world_before ends.told r.world_after.asked ends.asks ends.keeps.asked
-
-  pub ends-asked_port : AsksForNoPort r.door_before.asked r.door_after.asked
-  ends-asked_port = no-port (record r { world_after = ends.told }) ends.exit ends.door
 
   pub ends-statuses : Contains (0 ∷ 2 ∷ 3 ∷ 4 ∷ 6 ∷ 7 ∷ 9 ∷ 10 ∷ []) status
   ends-statuses = elim ends.reports [

@@ -1,10 +1,8 @@
 pub mod Completes
 pub mod Ends
-pub mod Exits
 pub mod Grammar
-pub mod Links
+pub mod Rising
 pub mod Runs
 pub mod Says
 pub mod StatusLaws
 pub mod Statuses
-pub mod Told

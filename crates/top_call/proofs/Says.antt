@@ -63,3 +63,8 @@ says-end_part f xs k tail h x y z (Err e) so part =
     let whole = flat_map f xs ++ tail in
     let none : flat_map f (drop k xs) ++ tail ≡ tail ++ [] = ap (λ ys. ys ++ tail) (at_drop_all (flat_map f) xs k h) ∙ sym (append-nil tail) in
     breaks-off whole tail [] x y z (subst (λ left. GetsTo whole left x y) none so) part
+
+-- a fact that holds, holds of an error
+pub on_err : {T E : Type 0} (r : Result T E) (P : Type 0) → P → OnErr r P
+on_err (Ok value) P fact = tt
+on_err (Err e) P fact = fact

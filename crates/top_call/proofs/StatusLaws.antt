@@ -2,27 +2,37 @@
 use Rattle.std.proofs.Common.{◌≡◌, ℕ, ◌⊎◌, inl, inr, List, [], codes, append-nil, IsTrue, true, false, Option, Some, None, refl, sym, ◌∙◌, ap, subst, arith}
 use Rattle.std.specs.Prelude.{IsSomeAnd, IsSome}
 use Rattle.edge_core.specs.World.{WorldState, WorldHasFailed, Gets}
-use Rattle.edge_core.specs.Door.{Links, DoorHasFailed}
-use Rattle.type_table.specs.Table.{Catalog}
+use Rattle.edge_core.specs.Door.{DoorHasFailed}
+use Rattle.http_front.specs.Request.{Request}
+use Rattle.expr_core.specs.Schema.{Schema}
+use Rattle.serve_core.specs.Laws.{FaultsAreCounted, InsideIsOfStreams, DoorIsLeft}
+use Rattle.serve_core.specs.declared.plan.Plan.{Plan}
+use Rattle.serve_core.specs.declared.plan.Plan.TheVariants.{Streams, Port}
+use Rattle.serve_core.specs.declared.plan.ServeEnd.{ServeEnd}
+use Rattle.serve_core.specs.declared.plan.ServeEnd.TheVariants as end
+use Rattle.top_call.specs.Answering.{replies}
 use Rattle.top_call.specs.declared.exit.Exit.{Exit}
 use Rattle.top_call.specs.declared.exit.Exit.TheVariants.{Done, Checked, Usage, Unread, Syntax, Refused, DoorFailed, Memory, Inside}
-use Rattle.top_call.specs.Words.{Command, check, run}
+use Rattle.top_call.specs.Words.{Command, check, run, serve}
 use Rattle.top_call.specs.Exit.{exit_code, told_err}
-use Rattle.http_front.specs.Reply.{printed}
-use Rattle.http_front.specs.Request.{Request}
-use Rattle.top_call.specs.Link.{reply_to}
 use Rattle.top_call.specs.Report.{Tells}
-use Rattle.top_call.specs.Run.{Run, Ends, Causes, LeavesDoor, IsRun, IsCheck, IsServed, IsAnswered, IsBroken, IsOutOfMemory, IfSchemaFile, IsTooLong, IsSchemaFile, Refuses, SchemaIsGiven, RequestIsGiven, IsReplied}
-use Rattle.top_call.proofs.Exits.{risen-longer}
+use Rattle.top_call.specs.Run.{Run, Ends, Causes, IsRun, IsServing, ServesBy, IsCheck, serving_of, IsServed, IfSchemaFile, IsTooLong, IsSchemaFile, Refuses, SchemaIsGiven, RequestsAreGiven, AreReplied}
+use Rattle.top_call.proofs.Rising.{risen-longer}
 use Rattle.top_call.proofs.Ends.{ends-told, ends-code, ends-rises}
 use Rattle.top_call.proofs.Completes.{Laws, checks-all, completes}
+
+-- the laws of serving
+pub record ServingLaws : Type 0 where
+  pub fault : FaultsAreCounted replies
+  pub inside : InsideIsOfStreams replies
+  pub door : DoorIsLeft replies
 
 -- a run whose world told something else after it
 abbrev pub until : Run → WorldState → Run
 until r told = record r { world_after = told }
 
-served_after : (r : Run) (told : WorldState) (So : Catalog → Links → Links → Type 0) → IsServed (until r told) So → IsServed r So
-served_after r told So x = record { is_run = x.is_run; types = x.types; sound = x.sound; schema = x.schema; ends = x.ends }
+served_after : (r : Run) (told : WorldState) (end : ServeEnd) → IsServed (until r told) end → IsServed r end
+served_after r told end x = record { served = x.served; serves_by = x.serves_by; sound = x.sound; file = x.file; door = x.door }
 
 no_some : (c : Option Command) → IsSome c → c ≡ None → ⊥
 no_some None some none = (let e : false ≡ true = some in cc)
@@ -36,10 +46,6 @@ no_check : (c : Option Command) → IsCheck c → c ≡ None → ⊥
 no_check None is none = is
 no_check (Some c) is none = cc
 
-no_run : (c : Option Command) → IsRun c → c ≡ None → ⊥
-no_run None is none = is
-no_run (Some c) is none = cc
-
 -- other words have no other cause than that of 2
 none_code : (r : Run) (exit : Exit) → Causes r exit → r.command ≡ None → exit_code exit ≡ 2
 none_code r Usage cause none = refl
@@ -47,10 +53,10 @@ none_code r Unread cause none = absurd (no_some r.command cause.0 none)
 none_code r Syntax cause none = absurd (no_named r.command _ cause none)
 none_code r (Refused pointer rule) cause none = absurd (no_named r.command _ cause none)
 none_code r Checked cause none = absurd (no_check r.command cause.0 none)
-none_code r Done cause none = absurd (no_run r.command cause.is_run none)
-none_code r Inside cause none = absurd (no_run r.command cause.is_run none)
-none_code r DoorFailed cause none = absurd (no_run r.command cause.1.is_run none)
-none_code r Memory cause none = absurd (no_some r.command cause none)
+none_code r Done cause none = absurd (no_named r.command _ cause.serves_by none)
+none_code r Inside cause none = absurd (no_named r.command _ cause.serves_by none)
+none_code r DoorFailed cause none = absurd (no_named r.command _ cause.serves_by none)
+none_code r Memory cause none = absurd (no_some r.command cause.0 none)
 
 -- the cause of each code
 usage_of : (r : Run) (exit : Exit) → Causes r exit → exit_code exit ≡ 2 → r.command ≡ None
@@ -67,40 +73,51 @@ refused_of r told Syntax cause code gets = inl (cause, gets)
 refused_of r told (Refused pointer rule) cause code gets = inr (record { pointer = pointer; rule = rule; file = cause; told = gets })
 refused_of r told exit cause code gets = absurd (omega (arith, code))
 
-not_both : (c : Option Command) → IsCheck c → IsRun c → ⊥
-not_both None one other = one
-not_both (Some (check name)) one other = other
-not_both (Some (run name)) one other = one
+-- a check serves nothing, and only `run` serves the standard streams
+not_both : (c : Option Command) (plan : Plan) → IsCheck c → ServesBy c plan → ⊥
+not_both None plan one other = one
+not_both (Some (check name)) plan one other = cc
+not_both (Some (run name)) plan one other = one
+not_both (Some (serve name port links)) plan one other = one
+
+runs_streams : (c : Option Command) (plan : Plan) → ServesBy c plan → plan ≡ Streams → IsRun c
+runs_streams None plan by is = absurd by
+runs_streams (Some (check name)) plan by is = absurd (let e : None ≡ Some plan = by in cc)
+runs_streams (Some (run name)) plan by is = tt
+runs_streams (Some (serve name port links)) plan by is = absurd (let e : Some (Port port links) ≡ Some Streams = by ∙ ap Some is in cc)
 
 checked_of : (r : Run) (exit : Exit) → Causes r exit → IsCheck r.command → exit_code exit ≡ 0 → exit ≡ Checked
 checked_of r Checked cause is code = refl
-checked_of r Done cause is code = absurd (not_both r.command is cause.is_run)
+checked_of r Done cause is code = absurd (not_both r.command cause.served.plan is cause.serves_by)
 checked_of r exit cause is code = absurd (omega (arith, code))
 
-done_of : (r : Run) (exit : Exit) → Causes r exit → IsRun r.command → exit_code exit ≡ 0 → exit ≡ Done
+done_of : (r : Run) (exit : Exit) → Causes r exit → IsServing r.command → exit_code exit ≡ 0 → exit ≡ Done
 done_of r Done cause is code = refl
-done_of r Checked cause is code = absurd (not_both r.command cause.0 is)
+done_of r Checked cause is code = absurd (not_both r.command is.0 cause.0 is.1)
 done_of r exit cause is code = absurd (omega (arith, code))
 
-inside_of : (r : Run) (exit : Exit) → Causes r exit → exit_code exit ≡ 9 → IsAnswered r 9
+inside_of : (r : Run) (exit : Exit) → Causes r exit → exit_code exit ≡ 9 → IsServed r end.Inside
 inside_of r Inside cause code = cause
 inside_of r exit cause code = absurd (omega (arith, code))
 
-failed_of : (r : Run) (exit : Exit) → Causes r exit → exit_code exit ≡ 6 → DoorHasFailed r.door_before r.door_after × IsBroken r
+failed_of : (r : Run) (exit : Exit) → Causes r exit → exit_code exit ≡ 6 → IsServed r end.Fault
 failed_of r DoorFailed cause code = cause
 failed_of r exit cause code = absurd (omega (arith, code))
 
-memory_of : (r : Run) (exit : Exit) → LeavesDoor r exit → exit_code exit ≡ 7 → (r.door_after ≡ r.door_before) ⊎ IsOutOfMemory r
-memory_of r Memory (inl same) code = inl same
-memory_of r Memory (inr served) code = inr served.0
-memory_of r exit door code = absurd (omega (arith, code))
+memory_of : (r : Run) (exit : Exit) → Causes r exit → exit_code exit ≡ 7 → (r.door_after ≡ r.door_before) ⊎ IsServed r end.Memory
+memory_of r Memory cause code = cause.1
+memory_of r exit cause code = absurd (omega (arith, code))
 
-attached_of : (r : Run) (exit : Exit) → Causes r exit → LeavesDoor r exit → IsRun r.command → (exit_code exit ≡ 0) ⊎ (exit_code exit ≡ 9)
+-- a door that was served to an end that is no fault is attached
+attached_served : (laws : ServingLaws) (r : Run) (outcome : ServeEnd) → IsServed r outcome → ¬ (outcome ≡ end.Fault) → IsTrue r.door_after.is_attached
+attached_served laws r outcome x sound = elim (laws.door (serving_of r x.served) outcome x.door).attached [ inl fault ↦ absurd (sound fault) | inr is ↦ is ]
+
+attached_of : (laws : ServingLaws) (r : Run) (exit : Exit) → Causes r exit → IsServing r.command → (exit_code exit ≡ 0) ⊎ (exit_code exit ≡ 9)
     → IsTrue r.door_after.is_attached
-attached_of r Done cause door is code = door.0
-attached_of r Inside cause door is code = door.0
-attached_of r Checked cause door is code = absurd (not_both r.command cause.0 is)
-attached_of r exit cause door is code = absurd (elim code [ inl zero ↦ omega (arith, zero) | inr nine ↦ omega (arith, nine) ])
+attached_of laws r Done cause is code = attached_served laws r end.Done cause (λ e. (let d : end.Done ≡ end.Fault = e in cc))
+attached_of laws r Inside cause is code = attached_served laws r end.Inside cause (λ e. (let d : end.Inside ≡ end.Fault = e in cc))
+attached_of laws r Checked cause is code = absurd (not_both r.command is.0 cause.0 is.1)
+attached_of laws r exit cause is code = absurd (elim code [ inl zero ↦ omega (arith, zero) | inr nine ↦ omega (arith, nine) ])
 
 -- a stream that got nothing
 gets-nothing : (x y : Option (List ℕ)) → Gets [] x y → y ≡ x
@@ -154,35 +171,41 @@ module _ (r : Run) (status : ℕ) (ends : Ends r status) where
       err_of : (c : Option Command) → Gets (told_err c Checked) r.world_before.err r.world_after.err → Gets [] r.world_before.err r.world_after.err
       err_of c gets = gets
 
-  is_done : IsRun r.command → status ≡ 0 → ends.exit ≡ Done
+  is_done : IsServing r.command → status ≡ 0 → ends.exit ≡ Done
   is_done is zero = done_of (until r ends.told) ends.exit ends.causes is (code 0 zero (λ x. omega (arith, x)))
 
-  pub done-law : IsRun r.command → status ≡ 0 → IsAnswered r 0
-  done-law is zero = served_after r ends.told _ (subst (Causes (until r ends.told)) (is_done is zero) ends.causes)
+  pub done-law : IsServing r.command → status ≡ 0 → IsServed r end.Done
+  done-law is zero = served_after r ends.told end.Done (subst (Causes (until r ends.told)) (is_done is zero) ends.causes)
 
-  pub silent-law : IsRun r.command → status ≡ 0 → (r.world_after.err ≡ r.world_before.err) × (r.world_after.out ≡ r.world_before.out)
+  pub silent-law : IsServing r.command → status ≡ 0 → (r.world_after.err ≡ r.world_before.err) × (r.world_after.out ≡ r.world_before.out)
   silent-law is zero =
       let told = subst (λ (exit : Exit). Tells (record { command = r.command; exit = exit; status = status }) r.world_before r.world_after) (is_done is zero)
       (ends-told r status ends (λ ten. omega (arith, zero, ten))) in
       (gets-nothing r.world_before.err r.world_after.err told.err, gets-nothing r.world_before.out r.world_after.out told.out)
 
-  pub inside-law : status ≡ 9 → IsAnswered r 9
-  inside-law is = served_after r ends.told _ (inside_of (until r ends.told) ends.exit ends.causes (code 9 is (λ x. omega (arith, x))))
+  pub inside-law : ServingLaws → status ≡ 9 → IsRun r.command × IsServed r end.Inside
+  inside-law laws is =
+      let served : IsServed r end.Inside =
+      served_after r ends.told end.Inside (inside_of (until r ends.told) ends.exit ends.causes (code 9 is (λ x. omega (arith, x)))) in (
+        runs_streams r.command served.served.plan served.serves_by (laws.inside (serving_of r served.served) end.Inside served.door refl),
+        served,
+      )
 
-  pub attached-law : IsRun r.command → (status ≡ 0) ⊎ (status ≡ 9) → IsTrue r.door_after.is_attached
-  attached-law is either =
-      attached_of (until r ends.told) ends.exit ends.causes ends.door is
+  pub attached-law : ServingLaws → IsServing r.command → (status ≡ 0) ⊎ (status ≡ 9) → IsTrue r.door_after.is_attached
+  attached-law laws is either =
+      attached_of laws (until r ends.told) ends.exit ends.causes is
       (elim either [ inl zero ↦ inl (code 0 zero (λ x. omega (arith, x))) | inr nine ↦ inr (code 9 nine (λ x. omega (arith, x))) ])
 
-  pub door_failed-law : status ≡ 6 → DoorHasFailed r.door_before r.door_after × IsBroken r
-  door_failed-law is =
-      let failed = failed_of (until r ends.told) ends.exit ends.causes (code 6 is (λ x. omega (arith, x))) in
-      (failed.0, served_after r ends.told _ failed.1)
+  pub door_failed-law : ServingLaws → status ≡ 6 → DoorHasFailed r.door_before r.door_after × IsServed r end.Fault
+  door_failed-law laws is =
+      let served : IsServed r end.Fault =
+      served_after r ends.told end.Fault (failed_of (until r ends.told) ends.exit ends.causes (code 6 is (λ x. omega (arith, x)))) in
+      (laws.fault (serving_of r served.served) end.Fault served.door refl, served)
 
-  pub memory-law : status ≡ 7 → (r.door_after ≡ r.door_before) ⊎ IsOutOfMemory r
-  memory-law is = elim (memory_of (until r ends.told) ends.exit ends.door (code 7 is (λ x. omega (arith, x)))) [
+  pub memory-law : status ≡ 7 → (r.door_after ≡ r.door_before) ⊎ IsServed r end.Memory
+  memory-law is = elim (memory_of (until r ends.told) ends.exit ends.causes (code 7 is (λ x. omega (arith, x)))) [
     | inl same ↦ inl same
-    | inr served ↦ inr (served_after r ends.told _ served)
+    | inr served ↦ inr (served_after r ends.told end.Memory served)
   ]
 
   pub unwritten-law : status ≡ 10 → WorldHasFailed r.world_before r.world_after
@@ -207,11 +230,12 @@ module _ (r : Run) (status : ℕ) (ends : Ends r status) where
     | inr fails ↦ absurd (world (rises-late fails.failed))
   ]
 
-  pub complete-law : Laws → (types : Catalog) (request : Request) → RequestIsGiven r types request → ¬ (WorldHasFailed r.world_before r.world_after)
-      → ¬ (DoorHasFailed r.door_before r.door_after) → (status ≡ 7) ⊎ ((status ≡ 0) × IsReplied r (printed request.close (reply_to types request)))
-  complete-law laws types request given world door = elim ends.reports [
+  pub complete-law : Laws → (schema : Schema) (requests : List (List Request)) (given : RequestsAreGiven r schema requests)
+      → ¬ (WorldHasFailed r.world_before r.world_after) → ¬ (DoorHasFailed r.door_before r.door_after)
+      → (status ≡ 7) ⊎ ((status ≡ 0) × AreReplied r schema requests given)
+  complete-law laws schema requests given world door = elim ends.reports [
     | inl tells ↦
-        subst (λ n. (n ≡ 7) ⊎ ((n ≡ 0) × IsReplied r (printed request.close (reply_to types request)))) (sym tells.answers)
-        (completes laws r ends.told ends.exit ends.causes types request given (λ failed. world (rises-later failed)) door)
+        subst (λ n. (n ≡ 7) ⊎ ((n ≡ 0) × AreReplied r schema requests given)) (sym tells.answers)
+        (completes laws r ends.told ends.exit ends.causes schema requests given (λ failed. world (rises-later failed)) door)
     | inr fails ↦ absurd (world (rises-late fails.failed))
   ]

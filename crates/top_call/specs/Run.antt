@@ -1,22 +1,25 @@
 -- One run of the program: which outcome has which cause.
-use Rattle.std.specs.Prelude.{◌≡◌, ℕ, ◌<◌, ◌≤◌, ◌⊎◌, List, [], ◌∷◌, ◌++◌, length, codes, IsTrue, Option, Some, None, IsSome, IsSomeAnd, ⊤}
+use Rattle.std.specs.Prelude.{◌≡◌, ℕ, ◌<◌, ◌≤◌, ◌⊎◌, List, [], ◌∷◌, ◌++◌, length, take, codes, Option, Some, None, IsSome, IsSomeAnd, ⊤}
 use Rattle.edge_core.specs.World.{WorldState, WorldHasFailed, AsksFor, KeepsFiles, Gets, file_of}
-use Rattle.edge_core.specs.Door.{Links, DoorState, DoorHasFailed, BothTold, asked_also}
+use Rattle.edge_core.specs.Door.{Links, DoorState, asked_also}
 use Rattle.edge_core.specs.declared.door.AskedPort.{AskedPort}
 use Rattle.pointer_core.specs.Path.{Path, printed}
 use Rattle.pointer_core.specs.Rule.{schema_rule_name}
 use Rattle.pointer_core.specs.declared.schema_rule.SchemaRule.{SchemaRule}
 use Rattle.snap_json.specs.Loose.{loosely}
-use Rattle.type_table.specs.Table.{Catalog}
 use Rattle.type_core.specs.Sound.{IsSound}
 use Rattle.expr_core.specs.Schema.{Schema}
 use Rattle.schema_read.specs.Schema.{Spells, HasFirst}
-use Rattle.http_front.specs.Arrival.{whole, Arrives}
 use Rattle.http_front.specs.Request.{Request}
-use Rattle.top_call.specs.Words.{Command, check, run, name_in}
+use Rattle.serve_core.specs.Laws.{AreInputs, AreAnswered}
+use Rattle.serve_core.specs.Serving.{Serving, ServesDoor, port_of, most_links}
+use Rattle.serve_core.specs.declared.plan.Plan.{Plan}
+use Rattle.serve_core.specs.declared.plan.ServeEnd.{ServeEnd}
+use Rattle.serve_core.specs.declared.plan.ServeEnd.TheVariants as end
+use Rattle.top_call.specs.Answering.{State, start, replies}
+use Rattle.top_call.specs.Words.{Command, check, run, name_in, plan_of}
 use Rattle.top_call.specs.declared.exit.Exit.{Exit}
 use Rattle.top_call.specs.declared.exit.Exit.TheVariants.{Done, Checked, Usage, Unread, Syntax, Refused, DoorFailed, Memory, Inside}
-use Rattle.top_call.specs.Serving.{Served, EndsWith, EndsBroken, RunsOut, AsksForStreams}
 use Rattle.top_call.specs.Report.{Reports}
 
 -- a run of the program: its command, if the words are one, and what the world and the door told before it and after it
@@ -45,6 +48,13 @@ abbrev pub IsRun : Option Command → Type 0
 IsRun (Some (run name)) = ⊤
 IsRun _ = ⊥
 
+-- the command serves by this plan; it serves
+abbrev pub ServesBy : Option Command → Plan → Type 0
+ServesBy command plan = IsSomeAnd command (λ c. plan_of c ≡ Some plan)
+
+abbrev pub IsServing : Option Command → Type 0
+IsServing command = (plan : Plan) × ServesBy command plan
+
 -- the command is check
 abbrev pub IsCheck : Option Command → Type 0
 IsCheck (Some (check name)) = ⊤
@@ -59,12 +69,9 @@ pub record IsFileOf (schema : Schema) (file : List ℕ) : Type 0 where
   pub short : length file ≤ 262144
   pub spells : Spells file schema
 
--- the bytes are short enough, and spell some schema; one of these types
+-- the bytes are short enough, and spell some schema
 abbrev pub IsSchemaFile : List ℕ → Type 0
 IsSchemaFile file = (schema : Schema) × IsFileOf schema file
-
-abbrev pub IsSchemaOf : Catalog → List ℕ → Type 0
-IsSchemaOf types file = (schema : Schema) × IsFileOf schema file × (schema.types ≡ types)
 
 -- the bytes are short enough, and no JSON
 pub record IsNoJson (file : List ℕ) : Type 0 where
@@ -78,25 +85,28 @@ pub record IsFaulty (pointer : List ℕ) (rule : SchemaRule) (file : List ℕ) :
   pub spelled : pointer ≡ printed path
   pub first : HasFirst file (record { path = path; rule = rule })
 
--- the command is run, its file is a schema of these types, which have no fault, and so the door's links ended
-pub record IsServed (r : Run) (Ended : Catalog → Links → Links → Type 0) : Type 0 where
-  pub is_run : IsRun r.command
-  pub types : Catalog
-  pub sound : IsSound types
-  pub schema : IfSchemaFile r (IsSchemaOf types)
-  pub ends : BothTold (Ended types) r.door_before.links r.door_after.links
+-- what a plan names, a schema, and the state in the end
+pub record Served : Type 0 where
+  pub plan : Plan
+  pub schema : Schema
+  pub last : State
 
--- the next link was answered by the file's types, or there was none, and the status after it is this
-abbrev pub IsAnswered : Run → ℕ → Type 0
-IsAnswered r status = IsServed r (λ types. EndsWith types status)
+-- serving a schema's requests at the door of a run, from the start
+abbrev pub serving_of : Run → Served → Serving State
+serving_of r served =
+    record {
+      plan = served.plan;
+      before = record { state = start served.schema; door = r.door_before };
+      after = record { state = served.last; door = r.door_after };
+    }
 
--- the links are as they were, or what was written to the next one is the beginning of an answer by the file's types
-abbrev pub IsBroken : Run → Type 0
-IsBroken r = IsServed r EndsBroken
-
--- the next link got the fixed reply for want of memory
-abbrev pub IsOutOfMemory : Run → Type 0
-IsOutOfMemory r = IsServed r (λ types. RunsOut)
+-- the command serves, its file is a schema, which has no fault, and the door was served so by what answers for it
+pub record IsServed (r : Run) (end : ServeEnd) : Type 0 where
+  pub served : Served
+  pub serves_by : ServesBy r.command served.plan
+  pub sound : IsSound served.schema.types
+  pub file : IfSchemaFile r (IsFileOf served.schema)
+  pub door : ServesDoor replies (serving_of r served) end
 
 -- each exit's cause
 abbrev pub Causes : Run → Exit → Type 0
@@ -105,26 +115,18 @@ Causes r Unread = IsSome r.command × (WorldHasFailed r.world_before r.world_aft
 Causes r Syntax = IfSchemaFile r IsNoJson
 Causes r (Refused pointer rule) = IfSchemaFile r (IsFaulty pointer rule)
 Causes r Checked = IsCheck r.command × IfSchemaFile r IsSchemaFile
-Causes r Done = IsAnswered r 0
-Causes r Inside = IsAnswered r 9
-Causes r DoorFailed = DoorHasFailed r.door_before r.door_after × IsBroken r
-Causes r Memory = IsSome r.command
+Causes r Done = IsServed r end.Done
+Causes r Inside = IsServed r end.Inside
+Causes r DoorFailed = IsServed r end.Fault
+Causes r Memory = IsSome r.command × ((r.door_after ≡ r.door_before) ⊎ IsServed r end.Memory)
 
--- What an exit says of the door itself. It is as it was where the exit comes before it; else it was asked to attach to the
--- standard streams alone, and is attached where its links were served; and for want of memory it is as it was, or the next link
--- got the fixed reply.
+-- what an exit says of the door beyond its cause: it is as it was where the exit comes before it
 abbrev pub LeavesDoor : Run → Exit → Type 0
-LeavesDoor r Done = IsTrue r.door_after.is_attached × AsksForStreams r.door_before r.door_after
-LeavesDoor r Inside = IsTrue r.door_after.is_attached × AsksForStreams r.door_before r.door_after
-LeavesDoor r DoorFailed = AsksForStreams r.door_before r.door_after
-LeavesDoor r Memory =
-    (r.door_after ≡ r.door_before)
-    ⊎ (IsOutOfMemory r × IsTrue r.door_after.is_attached × AsksForStreams r.door_before r.door_after)
-LeavesDoor r Usage = r.door_after ≡ r.door_before
-LeavesDoor r Unread = r.door_after ≡ r.door_before
-LeavesDoor r Syntax = r.door_after ≡ r.door_before
-LeavesDoor r (Refused pointer rule) = r.door_after ≡ r.door_before
-LeavesDoor r Checked = r.door_after ≡ r.door_before
+LeavesDoor r Done = ⊤
+LeavesDoor r Inside = ⊤
+LeavesDoor r DoorFailed = ⊤
+LeavesDoor r Memory = ⊤
+LeavesDoor r exit = r.door_after ≡ r.door_before
 
 -- The file that a command names is asked for, once, and no other; where memory runs out first, none is. Other words ask for none.
 abbrev pub AsksForSchema : Option Command → Exit → WorldState → WorldState → Type 0
@@ -147,9 +149,10 @@ abbrev pub AsksForNoOther : Option Command → List (List ℕ) → List (List �
 AsksForNoOther None old new = new ≡ old
 AsksForNoOther (Some command) old new = (new ≡ old) ⊎ (new ≡ old ++ name_in command ∷ [])
 
--- at what the door was asked to attach: as before, or once more at the standard streams
-abbrev pub AsksForNoPort : AskedPort → AskedPort → Type 0
-AsksForNoPort old new = (new ≡ old) ⊎ (new ≡ asked_also None old)
+-- at what the door was asked to attach: as before, or once more where the command's plan says
+abbrev pub AttachesByPlan : Option Command → AskedPort → AskedPort → Type 0
+AttachesByPlan command old new =
+    (new ≡ old) ⊎ ((plan : Plan) × ServesBy command plan × (new ≡ asked_also (port_of plan) old))
 
 -- the message names the file's first fault
 pub record RefusesAt (r : Run) : Type 0 where
@@ -178,21 +181,21 @@ pub record SchemaIsGiven (r : Run) : Type 0 where
   pub given : FileIsGiven r.world_before.files name file
   pub schema : IsSchemaFile file
 
--- the command is run, its file is given and is a schema of these types, and the next link is told and brings this request, whole
--- and nothing after it
-pub record RequestIsGiven (r : Run) (types : Catalog) (request : Request) : Type 0 where
-  pub name : List ℕ
+-- the command serves, its file is given and is this schema, and the links that come next are told and have these requests
+pub record RequestsAreGiven (r : Run) (schema : Schema) (requests : List (List Request)) : Type 0 where
+  pub command : Command
+  pub named : r.command ≡ Some command
+  pub plan : Plan
+  pub serves_by : plan_of command ≡ Some plan
   pub file : List ℕ
-  pub named : r.command ≡ Some (run name)
-  pub given : FileIsGiven r.world_before.files name file
-  pub schema : IsSchemaOf types file
+  pub given : FileIsGiven r.world_before.files (name_in command) file
+  pub is_schema : IsFileOf schema file
   pub links : Links
-  pub links_told : r.door_before.links ≡ Some links
-  pub input : List ℕ
-  pub rest : List (List ℕ)
-  pub next : links.coming ≡ input ∷ rest
-  pub arrives : Arrives input (whole request [])
+  pub told : r.door_before.links ≡ Some links
+  pub inputs : AreInputs (take (most_links plan) links.coming) requests
 
--- the next link got this reply, brought all its bytes, and was shut
-abbrev pub IsReplied : Run → List ℕ → Type 0
-IsReplied r reply = (came : List ℕ) × BothTold (Served came [] reply) r.door_before.links r.door_after.links
+-- each of those requests got its reply, on its link, from what answers for the schema
+abbrev pub AreReplied : (r : Run) (schema : Schema) (requests : List (List Request)) → RequestsAreGiven r schema requests → Type 0
+AreReplied r schema requests given =
+    (last : State)
+    × AreAnswered replies (serving_of r (record { plan = given.plan; schema = schema; last = last })) given.links requests

@@ -1,11 +1,17 @@
--- Words of private clauses: what loading a schema file comes to, and exits before the door.
+-- Words of private clauses: what loading a schema file and serving a door come to, and exits before the door.
 use Rattle.std.specs.Prelude.{◌≡◌, ◌⊎◌, List, ℕ, None, Result, Ok, Err, ⊤}
+use Rattle.edge_core.specs.Door.{DoorState}
 use Rattle.edge_core.specs.World.{WorldState, WorldHasFailed}
 use Rattle.pointer_core.specs.Path.{Path, printed}
 use Rattle.pointer_core.specs.declared.schema_rule.SchemaRule.{SchemaRule}
 use Rattle.snap_json.specs.Loose.{loosely}
 use Rattle.expr_core.specs.Schema.{Schema}
 use Rattle.schema_read.specs.Schema.{Spells, HasFirst}
+use Rattle.serve_core.specs.Serving.{ServesDoor}
+use Rattle.serve_core.specs.declared.plan.Plan.{Plan}
+use Rattle.serve_core.specs.declared.plan.ServeEnd.{ServeEnd}
+use Rattle.serve_core.specs.declared.plan.ServeEnd.TheVariants as end
+use Rattle.top_call.specs.Answering.{State, start, replies}
 use Rattle.top_call.specs.declared.exit.Exit.{Exit}
 use Rattle.top_call.specs.declared.exit.Exit.TheVariants.{Done, Unread, Syntax, Refused, DoorFailed, Memory, Inside}
 use Rattle.top_call.specs.Run.{IfFile, IsTooLong, IsFileOf, IsNoJson, IsFaulty}
@@ -48,3 +54,37 @@ abbrev pub IsRefusal : Path → SchemaRule → Exit → Type 0
 IsRefusal path rule (Refused pointer named) = (pointer ≡ printed path) × (named ≡ rule)
 IsRefusal path rule Memory = ⊤
 IsRefusal path rule _ = ⊥
+
+-- how the program ends where serving ended so
+abbrev pub exit_of : ServeEnd → Exit
+exit_of end.Done = Done
+exit_of end.Inside = Inside
+exit_of end.Memory = Memory
+exit_of end.Fault = DoorFailed
+
+-- an exit that serving can come to
+abbrev pub IsOfServing : Exit → Type 0
+IsOfServing exit = (end : ServeEnd) × (exit ≡ exit_of end)
+
+-- a schema, a plan, and the door before and after
+pub record Hosting : Type 0 where
+  pub schema : Schema
+  pub plan : Plan
+  pub before : DoorState
+  pub after : DoorState
+
+-- the door was served by what answers for the schema, to this end
+abbrev pub ServesSchema : Hosting → ServeEnd → Type 0
+ServesSchema hosting end =
+    (last : State)
+    × ServesDoor replies (record {
+      plan = hosting.plan;
+      before = record { state = start hosting.schema; door = hosting.before };
+      after = record { state = last; door = hosting.after };
+    }) end
+
+-- there was no memory to begin, and the door is as it was; or it was served, and the exit says how that ended
+abbrev pub Hosts : Hosting → Exit → Type 0
+Hosts hosting exit =
+    ((exit ≡ Memory) × (hosting.after ≡ hosting.before))
+    ⊎ ((end : ServeEnd) × (exit ≡ exit_of end) × ServesSchema hosting end)

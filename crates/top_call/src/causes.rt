@@ -1,17 +1,17 @@
 //! What each exit status tells of a run: laws that follow from how a run ends.
-ghost use Rattle.std.specs.Prelude.{◌≡◌, ◌⊎◌, ℕ, None, IsTrue, codes};
-ghost use Rattle.http_front.specs.Reply.{printed};
+ghost use Rattle.std.specs.Prelude.{◌≡◌, ◌⊎◌, ℕ, List, None, IsTrue, codes};
 ghost use Rattle.http_front.specs.Request.{Request};
-ghost use Rattle.type_table.specs.Table.{Catalog};
+ghost use Rattle.expr_core.specs.Schema.{Schema};
 ghost use Rattle.edge_core.specs.World.{WorldHasFailed, Gets};
 ghost use Rattle.edge_core.specs.Door.{DoorHasFailed};
+ghost use Rattle.serve_core.specs.declared.plan.ServeEnd.TheVariants as end;
 ghost use Rattle.top_call.specs.declared.exit.Exit as declared;
-ghost use Rattle.top_call.specs.Link.{reply_to};
 ghost use Rattle.top_call.specs.Report.{Tells};
-ghost use Rattle.top_call.specs.Run.{Run, Ends, IsRun, IsCheck, IfSchemaFile, IsTooLong, IsSchemaFile, IsAnswered, IsBroken, IsOutOfMemory, Refuses, SchemaIsGiven, RequestIsGiven, IsReplied};
+ghost use Rattle.top_call.specs.Run.{Run, Ends, IsRun, IsServing, IsCheck, IfSchemaFile, IsTooLong, IsSchemaFile, IsServed, Refuses, SchemaIsGiven, RequestsAreGiven, AreReplied};
 
-use http_front::{nothing_is_partial, requests_are_short, whole_is_only};
+use crate::checker::Checker;
 use schema_read::{file_is_one_schema, schema_has_no_fault};
+use serve_core::{door_completes, ends_have_causes};
 
 /// The cause of each status, and what is told.
 pub fn statuses_have_causes()
@@ -30,43 +30,47 @@ pub fn statuses_have_causes()
     ensures ok { (r : Run) (status : ℕ) → Ends r status → IsCheck r.command → status ≡ 0
         → (r.world_after.err ≡ r.world_before.err)
         × Gets (codes "ok\n") r.world_before.out r.world_after.out }
-    // 0 and 9 of a run exactly as the bytes that came say; what is written is the answer to them.
-    ensures done { (r : Run) (status : ℕ) → Ends r status → IsRun r.command
-        → status ≡ 0 → IsAnswered r 0 }
-    ensures inside { (r : Run) (status : ℕ) → Ends r status → status ≡ 9 → IsAnswered r 9 }
-    ensures attached { (r : Run) (status : ℕ) → Ends r status → IsRun r.command
+    // 0 and 9 of a command that serves only where the door was served to that end, which says what was
+    // written to each link. Nothing else is written.
+    ensures done { (r : Run) (status : ℕ) → Ends r status → IsServing r.command
+        → status ≡ 0 → IsServed r end.Done }
+    ensures inside { (r : Run) (status : ℕ) → Ends r status
+        → status ≡ 9 → IsRun r.command × IsServed r end.Inside }
+    ensures attached { (r : Run) (status : ℕ) → Ends r status → IsServing r.command
         → (status ≡ 0) ⊎ (status ≡ 9) → IsTrue r.door_after.is_attached }
-    ensures silent { (r : Run) (status : ℕ) → Ends r status → IsRun r.command → status ≡ 0
+    ensures silent { (r : Run) (status : ℕ) → Ends r status → IsServing r.command → status ≡ 0
         → (r.world_after.err ≡ r.world_before.err) × (r.world_after.out ≡ r.world_before.out) }
-    // 6 only where the door's count rose; what was written was the beginning of an answer.
+    // 6 only where the door's count rose.
     ensures door_failed { (r : Run) (status : ℕ) → Ends r status
-        → status ≡ 6 → DoorHasFailed r.door_before r.door_after × IsBroken r }
-    // 7 is free: the door is as it was, or a link that was due a reply gets the fixed one.
+        → status ≡ 6 → DoorHasFailed r.door_before r.door_after × IsServed r end.Fault }
+    // 7 is free: the door is as it was, or a link that was due a reply got the fixed one.
     ensures memory { (r : Run) (status : ℕ) → Ends r status
-        → status ≡ 7 → (r.door_after ≡ r.door_before) ⊎ IsOutOfMemory r }
+        → status ≡ 7 → (r.door_after ≡ r.door_before) ⊎ IsServed r end.Memory }
     // 10 only where the world counted a fault; every other status is told whole.
     ensures unwritten { (r : Run) (status : ℕ) → Ends r status
         → status ≡ 10 → WorldHasFailed r.world_before r.world_after }
     ensures told { (r : Run) (status : ℕ) → Ends r status → ¬ (status ≡ 10)
         → (exit : declared.Exit)
         × Tells (record { command = r.command; exit = exit; status = status }) r.world_before r.world_after }
-{}
+{
+    ends_have_causes::<Checker>();
+}
 
 /// What comes of a run in which the outside fails nowhere.
 pub fn answers_what_is_given()
     // A check of a schema: 0, or memory ran out.
     ensures checks { (r : Run) (status : ℕ) → Ends r status → SchemaIsGiven r
         → ¬ (WorldHasFailed r.world_before r.world_after) → (status ≡ 7) ⊎ (status ≡ 0) }
-    // A run by a schema, with one whole request: it gets its reply, or memory ran out.
+    // Serving by a schema, where each link brings whole requests: each of them gets its reply, on its
+    // link, in whatever pieces it came, or memory ran out.
     ensures complete { (r : Run) (status : ℕ) → Ends r status
-        → (types : Catalog) (request : Request) → RequestIsGiven r types request
+        → (schema : Schema) (requests : List (List Request)) (given : RequestsAreGiven r schema requests)
         → ¬ (WorldHasFailed r.world_before r.world_after)
         → ¬ (DoorHasFailed r.door_before r.door_after)
-        → (status ≡ 7) ⊎ ((status ≡ 0) × IsReplied r (printed request.close (reply_to types request))) }
+        → (status ≡ 7) ⊎ ((status ≡ 0) × AreReplied r schema requests given) }
 {
-    whole_is_only();
-    requests_are_short();
-    nothing_is_partial();
+    door_completes::<Checker>();
+    ends_have_causes::<Checker>();
     schema_has_no_fault();
     file_is_one_schema();
 }

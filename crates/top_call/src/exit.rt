@@ -7,7 +7,7 @@ use snap_core::Txt;
 /// How the program ends.
 #[derive(Debug, Drop)]
 pub enum Exit {
-    /// The link was answered, it brought nothing, or there was none.
+    /// The links were served.
     Done,
     /// The schema file is a schema.
     Checked,
@@ -19,7 +19,7 @@ pub enum Exit {
     Syntax,
     /// The schema file's first fault, with the printed pointer to its place.
     Refused { pointer: Txt, rule: SchemaRule },
-    /// The link failed.
+    /// The link of the standard streams failed, or links couldn't be opened.
     DoorFailed,
     /// Memory ran out.
     Memory,

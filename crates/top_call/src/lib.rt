@@ -8,13 +8,13 @@
 //!
 //! Each status has its cause, which the laws of `causes` state one by one, and each byte that is
 //! written is the one that is due. No file is read but the schema file, and nothing is attached but
-//! the standard streams.
+//! where the command says. What answers the requests is made in `serve` and said in `Answering.antt`,
+//! and nowhere else.
 #![tactic(auto)]
 
-mod answer;
 mod causes;
+mod checker;
 mod exit;
-mod link;
 mod load;
 mod program;
 mod report;

@@ -6,9 +6,8 @@ use Rattle.top_call.proofs.causes.answers_what_is_given.Goals as goal
 pub returns : goal.returns
 returns c =
     let laws : Laws = record {
-      whole_is_only = c.whole_is_only.ensures;
-      whole_is_short = c.requests_are_short.ensures.whole;
-      nothing_is_partial = c.nothing_is_partial.ensures;
+      door_completes = c.door_completes.ensures;
+      faults_are_counted = c.ends_have_causes.ensures.fault;
       schema_has_no_fault = c.schema_has_no_fault.ensures;
       file_is_one_schema = c.file_is_one_schema.ensures;
     } in

@@ -1,6 +1,11 @@
 -- Each law follows from how a run ends.
-use Rattle.top_call.proofs.StatusLaws.{usage-law, no_command-law, unread-law, refused-law, checked-law, ok-law, done-law, inside-law, attached-law, silent-law, door_failed-law, memory-law, unwritten-law, told-law}
+use Rattle.serve_core.specs.Laws.{FaultsAreCounted, InsideIsOfStreams, DoorIsLeft}
+use Rattle.top_call.specs.Answering.{replies}
+use Rattle.top_call.proofs.StatusLaws.{ServingLaws, usage-law, no_command-law, unread-law, refused-law, checked-law, ok-law, done-law, inside-law, attached-law, silent-law, door_failed-law, memory-law, unwritten-law, told-law}
 use Rattle.top_call.proofs.causes.statuses_have_causes.Goals as goal
+
+laws : FaultsAreCounted replies → InsideIsOfStreams replies → DoorIsLeft replies → ServingLaws
+laws fault inside door = record { fault = fault; inside = inside; door = door }
 
 pub returns-clause-usage : goal.returns-clause-usage
 returns-clause-usage c = usage-law
@@ -24,16 +29,16 @@ pub returns-clause-done : goal.returns-clause-done
 returns-clause-done c = done-law
 
 pub returns-clause-inside : goal.returns-clause-inside
-returns-clause-inside c = inside-law
+returns-clause-inside c = λ r status ends. inside-law r status ends (laws c.ends_have_causes.ensures.fault c.ends_have_causes.ensures.inside c.ends_have_causes.ensures.door)
 
 pub returns-clause-attached : goal.returns-clause-attached
-returns-clause-attached c = attached-law
+returns-clause-attached c = λ r status ends. attached-law r status ends (laws c.ends_have_causes.ensures.fault c.ends_have_causes.ensures.inside c.ends_have_causes.ensures.door)
 
 pub returns-clause-silent : goal.returns-clause-silent
 returns-clause-silent c = silent-law
 
 pub returns-clause-door_failed : goal.returns-clause-door_failed
-returns-clause-door_failed c = door_failed-law
+returns-clause-door_failed c = λ r status ends. door_failed-law r status ends (laws c.ends_have_causes.ensures.fault c.ends_have_causes.ensures.inside c.ends_have_causes.ensures.door)
 
 pub returns-clause-memory : goal.returns-clause-memory
 returns-clause-memory c = memory-law

@@ -3,7 +3,7 @@ use Rattle.std.specs.Option.{option_map}
 use Rattle.top_call.specs.Words.{command_of, seen}
 use Rattle.top_call.specs.Run.{Run, Ends}
 use Rattle.top_call.proofs.Grammar.{grammar}
-use Rattle.top_call.proofs.Ends.{reported, early, ends-statuses, ends-files, ends-count, ends-asked_files, ends-asked_port}
+use Rattle.top_call.proofs.Ends.{reported, early, ends-statuses, ends-files, ends-count, ends-asked_files}
 use Rattle.top_call.proofs.program.host.Given.{Over}
 use Rattle.top_call.proofs.program.host.Goals as goal
 
@@ -41,8 +41,7 @@ unfolding run
 returns-clause-asked_files g c = ends-asked_files (run g c) c.report_exit.result (ends g c)
 
 pub returns-clause-asked_port : goal.returns-clause-asked_port
-unfolding run
-returns-clause-asked_port g c = ends-asked_port (run g c) c.report_exit.result (ends g c)
+returns-clause-asked_port g c = rw c.command_of-command.ensures at c.run-exit.ensures.asked_port
 
 pub returns-clause-files : goal.returns-clause-files
 unfolding run

@@ -1,8 +1,7 @@
 -- Each piece is written behind those before it, or a part of it.
 use Rattle.std.proofs.Common.{rules, ◌∷◌, [], ℕ, List}
 use Rattle.std.specs.Borrow.{Bor}
-use Rattle.top_call.proofs.Links.{on_err}
-use Rattle.top_call.proofs.Says.{says-on, says-part, says-end_part}
+use Rattle.top_call.proofs.Says.{on_err, says-on, says-part, says-end_part}
 use Rattle.top_call.proofs.report.say.Goals as goal
 
 pub returns-in_err-write_err-clause-part : goal.returns-in_err-write_err-clause-part
