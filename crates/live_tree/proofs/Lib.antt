@@ -4,3 +4,4 @@ pub mod KeptCalls
 pub mod Changes
 pub mod Beginning
 pub mod SettledTree
+pub mod TakenBack

@@ -4,8 +4,10 @@
 //! let mut tree = Tree::new(alloc, &types, value)?;
 //! let mark = tree.mark();
 //! tree.write(alloc, &types, &running, &Place::Item(todos, 0), Change::Remove)?;
-//! let patches = tree.log();
+//! tree.write_list(alloc, &types, &patches)?;  // all of them, or none
+//! let done = tree.copy_log()?;
 //! tree.roll_back(mark);
+//! tree.put_back(alloc, &types, &done)?;
 //! ```
 //!
 //! After an error a tree is as before. Rolling back gives the very nodes of the mark, takes no memory and can't fail,
@@ -14,11 +16,12 @@
 
 mod call;
 mod laws;
+mod listing;
 mod reading;
 mod recording;
 mod settling;
 mod tree;
 mod writing;
 
-pub use laws::marks_are_given_back;
+pub use laws::{calls_are_taken_back, marks_are_given_back};
 pub use tree::{Mark, Tree};

@@ -3,10 +3,12 @@ ghost use Rattle.std.specs.Prelude.{◌≡◌, ◌≤◌, ◌++◌, map, OnOk, O
 ghost use Rattle.list_core.specs.Outcome.{Gives};
 ghost use Rattle.edit_core.specs.Logged.{before_log, patch_of_logged};
 ghost use Rattle.node_core.specs.View.{labelled, edits_of};
+ghost use Rattle.tree_core.specs.State.{mark_of, rolled_back};
 ghost use Rattle.tree_core.specs.Written.{changed};
 ghost use Rattle.tree_core.specs.Recorded.{with_change};
 ghost use Rattle.live_tree.specs.Contents.{state};
 ghost use Rattle.live_tree.specs.Inside.{IsWell};
+ghost use Rattle.live_tree.specs.Laws.{CanBeTakenBack, given_back};
 
 use crate::call::Call;
 use crate::tree::Tree;
@@ -25,6 +27,8 @@ impl Tree {
         requires later { self.old.next ≤ change.next }
         ensures ok { OnOk result (state self.new ≡ with_change (changed change) (state self.old)) }
         ensures err { OnErr result (self.new ≡ self.old) }
+        ensures undone { OnOk result (rolled_back (mark_of (state self.old)) (state self.new) ≡ given_back (state self.old) (state self.new)) }
+        ensures kept { CanBeTakenBack (state self.old) (state self.new) }
     {
         if change.edits.is_empty() {
             return Ok(());

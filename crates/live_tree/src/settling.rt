@@ -7,9 +7,11 @@ ghost use Rattle.edit_core.specs.Plain.{IsShort};
 ghost use Rattle.node_core.specs.View.{labelled, edits_of};
 ghost use Rattle.tree_core.specs.Recorded.{after_settling, tree_in, GoesOn};
 ghost use Rattle.tree_core.specs.Settling.{settled};
+ghost use Rattle.tree_core.specs.State.{mark_of, rolled_back};
 ghost use Rattle.tree_core.specs.Written.{changed};
 ghost use Rattle.live_tree.specs.Contents.{state};
 ghost use Rattle.live_tree.specs.Inside.{IsWell};
+ghost use Rattle.live_tree.specs.Laws.{CanBeTakenBack, given_back};
 
 use crate::tree::Tree;
 use std::alloc::{AllocError, Global};
@@ -24,6 +26,9 @@ impl Tree {
         ensures ok { OnOk result (state self.new ≡ after_settling types.now (state self.old)) }
         ensures memory { IfErr result (λ error. error ≡ TreeError.Memory) }
         ensures unchanged { OnErr result (state self.new ≡ state self.old) }
+        ensures undone { OnOk result (rolled_back (mark_of (state self.old)) (state self.new) ≡ given_back (state self.old) (state self.new)) }
+        ensures later { (state self.old).next ≤ (state self.new).next }
+        ensures kept { CanBeTakenBack (state self.old) (state self.new) }
         ensures leads { IsShort (bare (state self.old).tree) → OnOk result (GoesOn (state self.old) (state self.new)) }
     {
         let change = self.settled(alloc, types)?;

@@ -1,6 +1,10 @@
 ghost use Rattle.std.specs.Prelude.{◌≡◌, ◌-◌, length};
-ghost use Rattle.tree_core.specs.State.{mark_of, rolled_back, without_newest, committed, patches_of};
+ghost use Rattle.list_core.specs.Outcome.{Gives};
+ghost use Rattle.tree_core.specs.State.{State, mark_of, rolled_back, without_newest, committed, patches_of};
+ghost use Rattle.live_tree.specs.Laws.{CanBeTakenBack, given_back};
 ghost use Rattle.std.specs.Option.{option_map};
+ghost use Rattle.snap_core.specs.Value.{IsPlain};
+ghost use Rattle.edit_core.specs.Labelled.{bare};
 ghost use Rattle.edit_core.specs.Typing.{label_of};
 ghost use Rattle.live_tree.specs.Contents.{state};
 
@@ -9,6 +13,7 @@ use list_core::RoomyParts;
 use node_core::Labelled;
 use patch_core::Patches;
 use snap_core::NodeNo;
+use std::alloc::AllocError;
 use std::marker::Model;
 
 /// A point in a tree's log to which it can be rolled back.
@@ -41,10 +46,20 @@ impl Model for Tree {
     ghost invariant = { λ t. IsKept (contents t.root t.next t.calls.items) t.calls.items t.patches };
 }
 
+impl Mark {
+    /// The mark of the last commit.
+    pub fn of_commit() -> Mark
+        ensures { result.0 ≡ 0 }
+    {
+        Mark(0)
+    }
+}
+
 impl Tree {
     /// The mark of the tree as it is.
     pub fn mark(&self) -> Mark
-        ensures { result.0 ≡ mark_of (state self.now) }
+        ensures mark { result.0 ≡ mark_of (state self.now) }
+        ensures plain { IsPlain (bare (state self.now).tree) }
     {
         Mark(self.patches.len())
     }
@@ -56,11 +71,20 @@ impl Tree {
         &self.patches
     }
 
+    /// A copy of the patches since the last commit.
+    pub fn copy_log(&self) -> Result<Patches, AllocError>
+        ensures { Gives result (patches_of (state self.now)) }
+    {
+        self.patches.clone_in()
+    }
+
     #[tactic(auto, using(crate::proofs::RollingBack::taken_back, crate::proofs::RollingBack::at_mark))]
     /// Takes back what was done since a mark: the very nodes of then are there again. Numbers that were given out
     /// since are not given out again.
     pub fn roll_back(&mut self, mark: Mark)
-        ensures { state self.new ≡ rolled_back mark.0 (state self.old) }
+        ensures state { state self.new ≡ rolled_back mark.0 (state self.old) }
+        ensures back { (before : State) → mark.0 ≡ mark_of before → CanBeTakenBack before (state self.old)
+            → state self.new ≡ given_back before (state self.old) }
     {
         while self.mark().0 > mark.0 {
             self.take_back();

@@ -12,6 +12,7 @@ ghost use Rattle.tree_core.specs.State.{rolled_back, mark_of};
 ghost use Rattle.tree_core.specs.Write.{write_of, WritesPlain};
 ghost use Rattle.live_tree.specs.Contents.{state};
 ghost use Rattle.live_tree.specs.Inside.{IsWell};
+ghost use Rattle.live_tree.specs.Laws.{CanBeTakenBack, given_back};
 
 use crate::tree::Tree;
 use list_core::RoomyParts;
@@ -54,8 +55,9 @@ impl Tree {
         requires plain { WritesPlain (write_of change) }
         ensures outcome { Leaves result (after_write types.now (record { running = running.now; place = place.now; named = None }) (write_of change) (state self.old)) (state self.new) }
         ensures unchanged { OnErr result (state self.new ≡ state self.old) }
-        ensures undone { OnOk result (rolled_back (mark_of (state self.old)) (state self.new)
-            ≡ record { tree = (state self.old).tree; next = (state self.new).next; calls = (state self.old).calls }) }
+        ensures undone { OnOk result (rolled_back (mark_of (state self.old)) (state self.new) ≡ given_back (state self.old) (state self.new)) }
+        ensures later { (state self.old).next ≤ (state self.new).next }
+        ensures kept { CanBeTakenBack (state self.old) (state self.new) }
     {
         let changed = self.change_by(alloc, types, running, place, &change)?;
         self.record(alloc, changed)?;

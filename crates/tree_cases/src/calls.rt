@@ -7,6 +7,7 @@ use crate::places::{change_of, place_of, value_of};
 use crate::printing::{counted, shown_patch};
 use crate::session::Session;
 use list_core::Parts;
+use patch_core::read_patches;
 use pointer_core::Pointer;
 use snap_core::{Field, Ident, ModelNo, NodeNo, Snap, Txt};
 use std::alloc::Global;
@@ -14,8 +15,20 @@ use tree_core::TreeError;
 use type_core::Types;
 
 impl Session {
-    /// What a call comes to.
+    /// What a call comes to: where it says so, how many patches it logs in place of the patches.
     pub fn call(&mut self, alloc: Global, types: &Types, fields: &[Field]) -> Result<Snap, Fault>
+        requires { ArePlainMembers (fields_view fields.now) }
+    {
+        if value_of(fields, "counted").is_none() {
+            return self.done(alloc, types, fields);
+        }
+        let before = self.tree.log().len();
+        let _ = self.done(alloc, types, fields)?;
+        counted(self.tree.log().len().saturating_sub(before))
+    }
+
+    // What a call comes to, with the patches that it logs.
+    fn done(&mut self, alloc: Global, types: &Types, fields: &[Field]) -> Result<Snap, Fault>
         requires { ArePlainMembers (fields_view fields.now) }
     {
         let before = self.tree.log().len();
@@ -27,10 +40,32 @@ impl Session {
             self.tree.settle(alloc, types)?;
             return self.logged(alloc, before);
         }
+        if let Some(list) = value_of(fields, "patches") {
+            self.write_list(alloc, types, list)?;
+            return self.logged(alloc, before);
+        }
+        if let Some(list) = value_of(fields, "restore") {
+            self.put_back(alloc, types, list)?;
+            return self.logged(alloc, before);
+        }
         if value_of(fields, "log").is_some() {
             return self.logged(alloc, 0);
         }
         self.move_marks(alloc, types, fields)
+    }
+
+    fn write_list(&mut self, alloc: Global, types: &Types, list: &Snap) -> Result<(), Fault>
+        requires { IsPlain (view list.now) }
+    {
+        let patches = read_patches(alloc, list)?;
+        Ok(self.tree.write_list(alloc, types, &patches)?)
+    }
+
+    fn put_back(&mut self, alloc: Global, types: &Types, list: &Snap) -> Result<(), Fault>
+        requires { IsPlain (view list.now) }
+    {
+        let patches = read_patches(alloc, list)?;
+        Ok(self.tree.put_back(alloc, types, &patches)?)
     }
 
     // The patches from an index of the log on.

@@ -1,4 +1,5 @@
 //! Why a line comes to no value.
+use patch_core::PatchError;
 use pointer_core::{PointerError, Refusal};
 use schema_read::SchemaError;
 use snap_json::ReadError;
@@ -61,6 +62,15 @@ impl From<PointerError> for Fault {
     fn from(error: PointerError) -> Fault {
         match error {
             PointerError::Memory => Fault::Memory,
+            _ => Fault::NoCase,
+        }
+    }
+}
+
+impl From<PatchError> for Fault {
+    fn from(error: PatchError) -> Fault {
+        match error {
+            PatchError::Memory => Fault::Memory,
             _ => Fault::NoCase,
         }
     }

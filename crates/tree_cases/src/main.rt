@@ -1,5 +1,5 @@
-//! Cases as data, over trees whose nodes keep their identity. A line of `data/writes.txt` is one of these, and empty
-//! or a comment where it begins with `#`:
+//! Cases as data, over trees whose nodes keep their identity. A line of `data/writes.txt` and of `data/lists.txt` is one
+//! of these, and empty or a comment where it begins with `#`:
 //!
 //! - `schema FILE`: the schema of what follows;
 //! - `tree VALUE`: a new tree, of what the root's model makes of the value;
@@ -23,7 +23,10 @@ fn main(rt: HostRuntime) -> io::Result<()> {
     let mut tally = Tally::new();
     match given_table(&rt)? {
         Some(name) => table::run(&rt, &mut tally, name.as_str())?,
-        None => table::run(&rt, &mut tally, "writes.txt")?,
+        None => {
+            table::run(&rt, &mut tally, "writes.txt")?;
+            table::run(&rt, &mut tally, "lists.txt")?;
+        }
     }
     println!(rt; "{tally}")
 }

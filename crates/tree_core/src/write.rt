@@ -178,7 +178,7 @@ fn type_at(way: &[Turn], types: &Types, t: TypeNo, root: &Labelled) -> TypeNo
 }
 
 /// The key of a turn; an item has none.
-fn key_of(to: &Turn) -> &str
+pub fn key_of(to: &Turn) -> &str
     ensures { result.now ≡ nodes.key_of (node.turn to.now) }
 {
     match to {
@@ -210,9 +210,10 @@ pub fn write_tree(
 }
 
 /// A changed tree, unless it is too heavy or too deep, or two models of one type have the same identifier.
-fn judge(alloc: Global, types: &Types, made: Changed) -> Result<Changed, TreeError>
+pub fn judge(alloc: Global, types: &Types, made: Changed) -> Result<Changed, TreeError>
     requires { IsPlain (node.plain made.value) }
-    ensures { Answers changed result (specs.judged types.now (changed made)) }
+    ensures outcome { Answers changed result (specs.judged types.now (changed made)) }
+    ensures given { IfOk result (λ c. c ≡ made) }
 {
     let snapshot = made.value.snapshot(alloc)?;
     if !fits(&snapshot, MOST_WEIGHT) {

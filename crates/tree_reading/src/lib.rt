@@ -31,6 +31,6 @@ pub use held::{Held, held_at};
 pub use identifiers::resolved;
 pub use nodes::{depth_to, key_at, kind_at, node_of, size_at};
 pub use places::{part_at_place, raw};
-pub use pointers::path_to;
+pub use pointers::{index_below, path_to, way_along};
 pub use settling::{Settled, settle, settling_leads};
-pub use showing::{follow, path_of, place_at, show, show_node};
+pub use showing::{entry_place, follow, path_of, place_at, show, show_node};

@@ -138,7 +138,8 @@ fn item_place(own: Label, token: &str, len: usize) -> Option<Place>
     }
 }
 
-fn entry_place(own: Label, token: &Token) -> Result<Place, AllocError>
+/// The place that a token names in a model or a map, whether something stands there or not.
+pub fn entry_place(own: Label, token: &Token) -> Result<Place, AllocError>
     ensures { Gives result (entry_place (label own) own.kind token.now) }
 {
     match own.kind {

@@ -1,0 +1,4 @@
+pub mod Naming
+pub mod Folding
+pub mod Restoring
+pub mod Restored
