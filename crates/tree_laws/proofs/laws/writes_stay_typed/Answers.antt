@@ -1,0 +1,5 @@
+use Rattle.tree_laws.proofs.StayTyped as lemmas
+use Rattle.tree_laws.proofs.laws.writes_stay_typed.Goals as goal
+
+pub returns : goal.returns
+returns c = lemmas.writes-typed

@@ -1,0 +1,4 @@
+pub mod Trees
+pub mod Tied
+pub mod Calls
+pub mod Laws
