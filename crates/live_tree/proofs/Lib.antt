@@ -5,3 +5,4 @@ pub mod Changes
 pub mod Beginning
 pub mod SettledTree
 pub mod TakenBack
+pub mod PlainParts

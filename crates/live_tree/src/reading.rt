@@ -1,6 +1,7 @@
 //! What a tree shows: its nodes, its places, and what pointers and identifiers lead to.
 ghost use Rattle.std.specs.Prelude.{◌≡◌, min, IfOk, IsSome, Some, MatchResult};
 ghost use Rattle.std.specs.Option.{option_copied, option_map};
+ghost use Rattle.snap_core.specs.Value.{IsPlain};
 ghost use Rattle.snap_core.specs.View.{view};
 ghost use Rattle.edit_core.specs.Labelled.{bare};
 ghost use Rattle.tree_core.specs.Answers.{Answers};
@@ -101,7 +102,8 @@ impl Tree {
 
     /// The value at a pointer; refused `path` where it is no place. Frozen values and references aren't entered.
     pub fn show(&self, alloc: Global, path: &Pointer) -> Result<Snap, TreeError>
-        ensures { Answers view result (asking.shown path.now (state self.now).tree) }
+        ensures outcome { Answers view result (asking.shown path.now (state self.now).tree) }
+        ensures plain { IfOk result (λ value. IsPlain (view value)) }
     {
         show(alloc, &self.root, path)
     }

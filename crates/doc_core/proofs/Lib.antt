@@ -1,0 +1,3 @@
+pub mod Trying
+pub mod Stages
+pub mod Typed

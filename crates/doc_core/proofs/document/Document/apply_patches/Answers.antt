@@ -1,0 +1,42 @@
+use Rattle.std.proofs.Common.{◌≡◌, Ok, ap, subst}
+use Rattle.snap_core.specs.Value.{IsPlain}
+use Rattle.type_table.specs.Table.{Catalog}
+use Rattle.type_core.specs.Making.{Outcome}
+use Rattle.edit_core.specs.Labelled.{bare}
+use Rattle.tree_core.specs.Recorded.{IsTreeOf, after_list, after_settling}
+use Rattle.tree_core.specs.State.{State}
+use Rattle.live_tree.specs.Contents.{Contents, state}
+use Rattle.live_tree.specs.Laws.{CanBeTakenBack}
+use Rattle.doc_core.proofs.Stages.{stages-by, staged-by, plain-by}
+use Rattle.doc_core.proofs.Typed.{settling_typed, list_typed, list_plain}
+use Rattle.doc_core.proofs.document.Document.apply_patches.Goals as goal
+
+pub returns-clause-outcome : goal.returns-clause-outcome
+returns-clause-outcome c =
+    let types : Catalog = c.args.schema.now.types in
+    let written : State = state c.write_list.new.self in
+    let done : after_list types c.args.patches.now (state c.args.self.now) ≡ Ok written = rw (c.types-types.ensures, c.self.view_is) at c.in_ok-write_list.ensures.outcome in
+    stages-by types (after_list types c.args.patches.now (state c.args.self.now)) written (state c.settle.new.tree) c.settle.result done
+    (rw c.types-types.ensures at c.settle.ensures.settled) c.settle.ensures.memory
+
+pub returns-clause-staged : goal.returns-clause-staged
+returns-clause-staged c =
+    let types : Catalog = c.args.schema.now.types in
+    let before : State = state c.args.self.now in
+    let written : State = state c.write_list.new.self in
+    let done : after_list types c.args.patches.now before ≡ Ok written = rw (c.types-types.ensures, c.self.view_is) at c.in_ok-write_list.ensures.outcome in
+    let plain : IsPlain (bare before.tree) = rw c.self.view_is at c.mark-mark.ensures.plain in
+    let typed : IsTreeOf types written =
+    list_typed types c.args.patches.now before written c.requires.document.sound c.requires.document.typed plain c.requires.plain done in
+    staged-by types before written (state c.settle.new.tree) c.settle.result (rw c.self.view_is at c.in_ok-write_list.ensures.kept)
+    (rw c.types-types.ensures at c.settle.ensures.settled) c.settle.ensures.kept (settling_typed types written c.requires.document.sound typed)
+
+pub returns-clause-plain : goal.returns-clause-plain
+returns-clause-plain c =
+    let types : Catalog = c.args.schema.now.types in
+    let before : State = state c.args.self.now in
+    let written : State = state c.write_list.new.self in
+    let done : after_list types c.args.patches.now before ≡ Ok written = rw (c.types-types.ensures, c.self.view_is) at c.in_ok-write_list.ensures.outcome in
+    let plain : IsPlain (bare before.tree) = rw c.self.view_is at c.mark-mark.ensures.plain in
+    plain-by types written (state c.settle.new.tree) c.settle.result (rw c.types-types.ensures at c.settle.ensures.settled)
+    (list_plain types c.args.patches.now before written c.requires.document.sound c.requires.document.typed plain c.requires.plain c.requires.document.at_rest done)

@@ -1,0 +1,5 @@
+pub mod Answers
+pub mod Changing
+pub mod Documents
+pub mod Errors
+pub mod Staging

@@ -1,0 +1,41 @@
+-- Staging: what a request does to a document can be kept or taken back.
+use Rattle.std.specs.Prelude.{◌≡◌, ◌≤◌, [], Result, Ok, Err}
+use Rattle.type_table.specs.Table.{Catalog}
+use Rattle.type_core.specs.Making.{Outcome}
+use Rattle.type_core.specs.Made.{refused_as}
+use Rattle.tree_core.specs.Recorded.{IsTreeOf, after_settling}
+use Rattle.tree_core.specs.State.{State, patches_of}
+use Rattle.live_tree.specs.Laws.{CanBeTakenBack}
+use Rattle.doc_core.specs.declared.error.DocError.{DocError}
+use Rattle.doc_core.specs.declared.error.DocError.TheVariants.{Memory, Refused}
+use Rattle.doc_core.specs.declared.document.Staged.{Staged}
+
+-- the document is what the outcome says, and its patches are told; or the outcome's refusal, want of memory aside
+abbrev pub Stages : Result Staged DocError → Outcome State → State → Type 0
+Stages (Ok staged) outcome now = (outcome ≡ Ok now) × (staged.patches ≡ patches_of now)
+Stages (Err (Refused r)) outcome now = outcome ≡ Err (refused_as r)
+Stages (Err Memory) outcome now = Unit {0}
+
+-- a document as before: the very nodes, and nothing staged that wasn't; only the next number may be higher
+pub record IsAsBefore (before after : State) : Type 0 where
+  pub tree : after.tree ≡ before.tree
+  pub calls : after.calls ≡ before.calls
+  pub later : before.next ≤ after.next
+
+-- a request is staged, which can be taken back to the document before it
+pub record IsStagedAfter (types : Catalog) (before after : State) : Type 0 where
+  pub back : CanBeTakenBack before after
+  pub typed : IsTreeOf types after
+
+-- For private clauses.
+
+-- a write left what the outcome says, or it is the outcome's refusal, want of memory aside
+abbrev pub Leaves : Result (Unit {0}) DocError → Outcome State → State → Type 0
+Leaves (Ok done) outcome now = outcome ≡ Ok now
+Leaves (Err (Refused r)) outcome now = outcome ≡ Err (refused_as r)
+Leaves (Err Memory) outcome now = Unit {0}
+
+-- what was written is settled, and all patches since the last commit are told
+pub record Settles (types : Catalog) (written now : State) (staged : Staged) : Type 0 where
+  pub settled : now ≡ after_settling types written
+  pub patches : staged.patches ≡ patches_of now

@@ -1,0 +1,25 @@
+//! Documents: one typed tree each, changed by requests that are staged and then kept or taken back.
+//!
+//! ```
+//! let mut document = Document::create(alloc, &schema, &given)?;
+//! let staged = document.apply_patches(alloc, &schema, &patches)?;
+//! match print(alloc, &staged.patches) {
+//!     Ok(reply) => document.commit(),
+//!     Err(_) => document.cancel(),
+//! }
+//! let shown = document.snapshot(alloc, &Pointer::new(alloc))?;
+//! ```
+//!
+//! A request leaves exactly what its definition says, settling included, or its first refusal. After an error a document
+//! is as before, and so it is after `cancel`, with the very nodes. Neither `cancel` nor `commit` takes memory.
+#![tactic(auto)]
+
+mod creating;
+mod document;
+mod error;
+mod reading;
+mod staging;
+
+pub use creating::try_value;
+pub use document::{Document, Staged};
+pub use error::DocError;

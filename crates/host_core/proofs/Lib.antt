@@ -1,0 +1,10 @@
+pub mod Holding
+pub mod Naming
+pub mod AllHeld
+pub mod Finding
+pub mod Telling
+pub mod Kept
+pub mod Pointing
+pub mod Replying
+pub mod Hosting
+pub mod OneDocument

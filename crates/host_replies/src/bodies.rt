@@ -1,0 +1,97 @@
+//! The values whose texts are the bodies of replies.
+ghost use Rattle.std.specs.Prelude.{◌≡◌, [], ◌∷◌, ◌++◌, map, codes, IfOk, OnOk};
+ghost use Rattle.std.specs.Option.{option_copied};
+ghost use Rattle.list_core.specs.Outcome.{Gives};
+ghost use Rattle.snap_core.specs.Value.{text, list};
+ghost use Rattle.snap_core.specs.View.{view, entry, parts_of};
+ghost use Rattle.pointer_core.specs.Rule.{rule_name};
+ghost use Rattle.patch_core.specs.Inverse.{inverse_of};
+ghost use Rattle.host_replies.specs.Replies as replies;
+
+use list_core::Parts;
+use patch_core::{PatchError, Patches, inverse, print_patches};
+use pointer_core::{Pointer, Refusal, Rule};
+use snap_core::{Field, Fields, Snap, Txt};
+use std::alloc::{AllocError, Global};
+
+/// A record of one entry.
+pub fn only(alloc: Global, key: &str, value: Snap) -> Result<Snap, AllocError>
+    ensures { IfOk result (λ made. view made ≡ replies.only key.now (view value)) }
+{
+    let mut fields = Parts::new(alloc);
+    push(alloc, &mut fields, key, value)?;
+    Ok(Snap::Dict(fields))
+}
+
+fn push(alloc: Global, fields: &mut Fields, key: &str, value: Snap) -> Result<(), AllocError>
+    ensures { OnOk result (map entry fields.new ≡ map entry fields.old ++ (key.now, view value) ∷ []) }
+{
+    fields.push(Field {
+        key: Txt::copy(alloc, key)?,
+        value,
+    })
+}
+
+/// The record that names a rule.
+pub fn rule_body(alloc: Global, rule: &Rule) -> Result<Snap, AllocError>
+    ensures { IfOk result (λ body. view body ≡ replies.only (codes "error") (text (rule_name rule.now))) }
+{
+    let name = Txt::copy(alloc, rule.name())?;
+    only(alloc, "error", Snap::Text(name))
+}
+
+/// The record that names a rule and a place.
+pub fn place_body(alloc: Global, refusal: &Refusal) -> Result<Snap, AllocError>
+    ensures { IfOk result (λ body. view body ≡ replies.place_body refusal.now.rule refusal.now.path) }
+{
+    let name = Txt::copy(alloc, refusal.rule.name())?;
+    let path = refusal.path.print()?;
+    let mut fields = Parts::new(alloc);
+    push(alloc, &mut fields, "error", Snap::Text(name))?;
+    push(alloc, &mut fields, "path", Snap::Text(path))?;
+    Ok(Snap::Dict(fields))
+}
+
+/// The list of some texts, which it takes over.
+pub fn list_of_texts(alloc: Global, texts: Vec<Txt>) -> Result<Snap, AllocError>
+    ensures { IfOk result (λ shown. view shown ≡ list tt (parts_of (map text texts.items))) }
+{
+    let mut items = Parts::new(alloc);
+    for name in texts {
+        items.push(Snap::Text(name))?;
+    }
+    Ok(Snap::List(items))
+}
+
+/// A pointer's text, and null for none.
+pub fn node_value(target: Option<&Pointer>) -> Result<Snap, AllocError>
+    ensures { IfOk result (λ shown. view shown ≡ replies.node_value (option_copied target.entry)) }
+{
+    match target {
+        Some(path) => Ok(Snap::Text(path.print()?)),
+        None => Ok(Snap::Null),
+    }
+}
+
+/// The record of a change.
+pub fn change_body(alloc: Global, patches: &Patches) -> Result<Snap, PatchError>
+    ensures { IfOk result (λ body. view body ≡ replies.change_body patches.now) }
+{
+    let inverse = print_patches(alloc, &inverses(alloc, patches)?)?;
+    let patches = print_patches(alloc, patches)?;
+    let mut fields = Parts::new(alloc);
+    push(alloc, &mut fields, "inverse", inverse)?;
+    push(alloc, &mut fields, "patches", patches)?;
+    Ok(Snap::Dict(fields))
+}
+
+// The inverse of each patch, in the same order.
+fn inverses(alloc: Global, patches: &Patches) -> Result<Patches, PatchError>
+    ensures { Gives result (map inverse_of patches.now) }
+{
+    let mut inverses = Patches::new(alloc);
+    for patch in patches.as_slice() {
+        inverses.push(inverse(alloc, patch)?)?;
+    }
+    Ok(inverses)
+}
