@@ -1,13 +1,16 @@
 //! The calls of a table.
 ghost use Rattle.snap_core.specs.Value.{IsPlain, ArePlainMembers};
 ghost use Rattle.snap_core.specs.View.{view, fields_view};
+ghost use Rattle.std.specs.Prelude.{All, IfOk};
+ghost use Rattle.patch_core.specs.Application.{HasValue};
+ghost use Rattle.patch_core.specs.Printing.{HasPlainValues};
 
 use crate::fault::Fault;
 use crate::places::{change_of, place_of, value_of};
 use crate::printing::{counted, shown_patch};
 use crate::session::Session;
 use list_core::Parts;
-use patch_core::read_patches;
+use patch_core::{Patches, read_patches};
 use pointer_core::Pointer;
 use snap_core::{Field, Ident, ModelNo, NodeNo, Snap, Txt};
 use std::alloc::Global;
@@ -57,14 +60,14 @@ impl Session {
     fn write_list(&mut self, alloc: Global, types: &Types, list: &Snap) -> Result<(), Fault>
         requires { IsPlain (view list.now) }
     {
-        let patches = read_patches(alloc, list)?;
+        let patches = patches_of(alloc, list)?;
         Ok(self.tree.write_list(alloc, types, &patches)?)
     }
 
     fn put_back(&mut self, alloc: Global, types: &Types, list: &Snap) -> Result<(), Fault>
         requires { IsPlain (view list.now) }
     {
-        let patches = read_patches(alloc, list)?;
+        let patches = patches_of(alloc, list)?;
         Ok(self.tree.put_back(alloc, types, &patches)?)
     }
 
@@ -186,6 +189,15 @@ impl Session {
             None => Ok(Snap::Null),
         }
     }
+}
+
+#[tactic(auto, using(crate::proofs::Plain::ordered))]
+fn patches_of(alloc: Global, list: &Snap) -> Result<Patches, Fault>
+    requires { IsPlain (view list.now) }
+    ensures values { IfOk result (λ patches. All HasValue patches) }
+    ensures plain { IfOk result (λ patches. All HasPlainValues patches) }
+{
+    Ok(read_patches(alloc, list)?)
 }
 
 fn identifier_of(alloc: Global, value: &Snap) -> Result<Ident, Fault> {
