@@ -26,3 +26,12 @@ pub mod SettlingTyped
 pub mod PlainEdits
 pub mod PlainWrites
 pub mod StayTyped
+pub mod Right
+pub mod RightParts
+pub mod WriteRight
+pub mod WholeRight
+pub mod TreeRight
+pub mod SettlingRight
+pub mod SettlingLimits
+pub mod SettlingIdentifiers
+pub mod SettlingSound

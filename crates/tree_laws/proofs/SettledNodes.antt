@@ -60,7 +60,7 @@ module _ (s : Settling) (m : ModelNo) (name : List ℕ) (unsafe : safe_target s.
   kept-here false false k x kept es e tied rest =
       ap (λ b. ident_of (if b then Some (bare (settled_value s x)) else value_at name (bare_fields (entries kept)))) e ∙ rest
 
-  ident-kept : (es : Entries Label) → ident_of (value_at name (bare_fields (entries (settled_entries s (kind.Model m) es)))) ≡ ident_of (value_at name (bare_fields es))
+  pub ident-kept : (es : Entries Label) → ident_of (value_at name (bare_fields (entries (settled_entries s (kind.Model m) es)))) ≡ ident_of (value_at name (bare_fields es))
   ident-kept no_entries = refl
   ident-kept (entry k x es) =
       kept-here (bytes_eq name k) (is_loose s (type_under s.table (kind.Model m) k) x) k x (settled_entries s (kind.Model m) es) es refl refl (ident-kept es)

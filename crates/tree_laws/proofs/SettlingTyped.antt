@@ -33,7 +33,7 @@ use Rattle.tree_laws.proofs.Judged.{KeepsLetters}
 use Rattle.tree_laws.proofs.Loose.{settled-tree}
 use Rattle.tree_laws.proofs.Typed.{IfModelKind, list-kind, record-kind, if-record}
 
-null-kind : (s : Option Shape) → kind_by s null ≡ None
+pub null-kind : (s : Option Shape) → kind_by s null ≡ None
 null-kind (Some (shape.Model m)) = refl
 null-kind (Some (shape.Map u)) = refl
 null-kind (Some (shape.Array u)) = refl
@@ -95,7 +95,7 @@ module _ (types : Catalog) (sound : IsSound types) (s : Settling) (of : s.table 
     letters-kept (entry k x es) held =
         letters-entry (bytes_eq name k) (is_loose s (type_under s.table (kind.Model m) k) x) k x (settled_entries s (kind.Model m) es) es refl refl (letters-kept es) held
 
-  kind-letters : (k : Kind) (es : Entries Label) → IfModelKind k (λ m. KeepsLetters types sound m (bare_fields es) (bare_fields (entries (settled_entries s k es))))
+  pub kind-letters : (k : Kind) (es : Entries Label) → IfModelKind k (λ m. KeepsLetters types sound m (bare_fields es) (bare_fields (entries (settled_entries s k es))))
   kind-letters (kind.Model m) es = λ name p l w there letter same held. letters-kept m name p l w there letter same es held
   kind-letters (kind.Map u) es = tt
   kind-letters (kind.Array u) es = tt

@@ -42,7 +42,7 @@ pub map-shape : (s : Option Shape) (ms : Fields) (u : TypeNo) → kind_by s (dic
 map-shape (Some (shape.Map w)) ms u h = let same : w ≡ u = cc in ap (λ (n : TypeNo). Some (shape.Map n)) same
 map-shape _ ms u h = absurd (cc)
 
-no-array : (s : Option Shape) (ms : Fields) (u : TypeNo) → kind_by s (dict tt ms) ≡ Some (kind.Array u) → ⊥
+pub no-array : (s : Option Shape) (ms : Fields) (u : TypeNo) → kind_by s (dict tt ms) ≡ Some (kind.Array u) → ⊥
 no-array (Some (shape.Model n)) ms u h = cc
 no-array (Some (shape.Map w)) ms u h = cc
 no-array _ ms u h = cc

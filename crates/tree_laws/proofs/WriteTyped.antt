@@ -148,26 +148,26 @@ module _ (w : Writing) (sound : IsSound w.types) where
   abbrev Made : ℕ → Value → Type 0
   Made t v = maker_of w.types.table w.types.defaults v t ≡ Ok v
 
-  made-again : (t : ℕ) (v made : Value) → making w.types t (Some v) ≡ Ok made → Made t made
+  pub made-again : (t : ℕ) (v made : Value) → making w.types t (Some v) ≡ Ok made → Made t made
   made-again t v made h = maker-again w.types sound t v made (limited-Ok (made_by w.types.table w.types.defaults t (Some v)) made h).0
 
   bare-new : (next : ℕ) (new : Template) (v : Value) → bare new ≡ v → bare (numbered next new) ≡ v
   bare-new next new v h = bare-numbered next new ∙ h
 
   -- a value in the place of another
-  set-typed : (t : ℕ) (old : Labelled) (made : Value) → Lab w.types t old → Typed t (value_set (typing_in w) (setting t old made w.next))
+  pub set-typed : (t : ℕ) (old : Labelled) (made : Value) → Lab w.types t old → Typed t (value_set (typing_in w) (setting t old made w.next))
   set-typed t old made labelled = labelled-again (typing_in w) (suited w.types.table) (setting t old made w.next) labelled
 
-  set-bare : (t : ℕ) (old : Labelled) (made : Value) → bare (value_set (typing_in w) (setting t old made w.next)).value ≡ made
+  pub set-bare : (t : ℕ) (old : Labelled) (made : Value) → bare (value_set (typing_in w) (setting t old made w.next)).value ≡ made
   set-bare t old made = bare-new w.next (template (by_first (typing_in w)) t (Some old) made) made (bare-template (by_first (typing_in w)) t (Some old) made)
 
-  item_set-typed : (t : ℕ) (old : Labelled) (made : Value) → Lab w.types t old → Typed t (one_item_set (typing_in w) (setting t old made w.next))
+  pub item_set-typed : (t : ℕ) (old : Labelled) (made : Value) → Lab w.types t old → Typed t (one_item_set (typing_in w) (setting t old made w.next))
   item_set-typed t old made labelled = by (same_item (typing_in w) t (seen old) made) where
     by : (b : Bool) → Typed t (as_changed (if b then reconciled (by_first (typing_in w)) (setting t old made w.next) else written_as w.next old (template (by_first (typing_in w)) t None made)))
     by true = set-typed t old made labelled
     by false = labelled-anew (typing_in w) (suited w.types.table) w.next t made
 
-  item_set-bare : (t : ℕ) (old : Labelled) (made : Value) → bare (one_item_set (typing_in w) (setting t old made w.next)).value ≡ made
+  pub item_set-bare : (t : ℕ) (old : Labelled) (made : Value) → bare (one_item_set (typing_in w) (setting t old made w.next)).value ≡ made
   item_set-bare t old made = by (same_item (typing_in w) t (seen old) made) where
     by : (b : Bool) → bare (as_changed (if b then reconciled (by_first (typing_in w)) (setting t old made w.next) else written_as w.next old (template (by_first (typing_in w)) t None made))).value ≡ made
     by true = set-bare t old made

@@ -35,6 +35,18 @@ ListsStayTyped =
 abbrev pub SettlingStaysTyped : Type 0
 SettlingStaysTyped = (types : Catalog) → IsSound types → (s : State) → IsTypedTree types s → IsTypedTree types (after_settling types s)
 
+-- a sound tree stays sound
+abbrev pub WritesKeepTrees : Type 0
+WritesKeepTrees =
+    (types : Catalog) → IsSound types → (before after : State) → IsSoundTree types before → Writes types before after → IsSoundTree types after
+
+abbrev pub ListsKeepTrees : Type 0
+ListsKeepTrees =
+    (types : Catalog) → IsSound types → (before after : State) → IsSoundTree types before → WritesList types before after → IsSoundTree types after
+
+abbrev pub SettlingKeepsTrees : Type 0
+SettlingKeepsTrees = (types : Catalog) → IsSound types → (s : State) → IsSoundTree types s → IsSoundTree types (after_settling types s)
+
 -- settling leaves nothing loose
 abbrev pub SettlingSettles : Type 0
 SettlingSettles = (types : Catalog) → IsSound types → (s : State) → IsSettled types (after_settling types s).tree

@@ -1,4 +1,4 @@
-ghost use Rattle.tree_laws.specs.Laws.{WritesLead, ListsLead, SettlingLeadsOn, LeadingGoesOn, WritesStayTyped, ListsStayTyped, SettlingStaysTyped, SettlingSettles};
+ghost use Rattle.tree_laws.specs.Laws.{WritesLead, ListsLead, SettlingLeadsOn, LeadingGoesOn, WritesStayTyped, ListsStayTyped, SettlingStaysTyped, WritesKeepTrees, ListsKeepTrees, SettlingKeepsTrees, SettlingSettles};
 
 /// The patches of a write fit in turn, lead to the snapshot after it and, taken back, to the one before.
 pub fn writes_lead()
@@ -33,6 +33,21 @@ pub fn lists_stay_typed()
 /// So it is after settling.
 pub fn settling_stays_typed()
     ensures { SettlingStaysTyped }
+{}
+
+/// After a write a sound tree is sound: its value is made of itself, and no identifier stands twice.
+pub fn writes_keep_trees()
+    ensures { WritesKeepTrees }
+{}
+
+/// So it is after a list of patches.
+pub fn lists_keep_trees()
+    ensures { ListsKeepTrees }
+{}
+
+/// So it is after settling.
+pub fn settling_keeps_trees()
+    ensures { SettlingKeepsTrees }
 {}
 
 /// After settling each safe reference leads to a node, or is null.

@@ -6,13 +6,14 @@
 //! - `specs/Laws`: what holds of them. Each law is the contract of one function here. Read this page first.
 //!
 //! Who writes a sound tree can rely on this: the patches that a write, a list of patches or settling logs fit in turn
-//! and lead to the snapshot after it, and their inverses, last first, fit in turn and lead back; the tree stays typed,
-//! and so do the values of its patches stay plain; and after settling no safe reference is loose.
+//! and lead to the snapshot after it, and their inverses, last first, fit in turn and lead back; the tree is sound
+//! again, and the values of its patches are plain; and after settling no safe reference is loose.
 #![tactic(auto)]
 
 mod laws;
 
 pub use laws::{
-    leading_goes_on, lists_lead, lists_stay_typed, settling_leads_on, settling_settles,
-    settling_stays_typed, writes_lead, writes_stay_typed,
+    leading_goes_on, lists_keep_trees, lists_lead, lists_stay_typed, settling_keeps_trees,
+    settling_leads_on, settling_settles, settling_stays_typed, writes_keep_trees, writes_lead,
+    writes_stay_typed,
 };

@@ -1,0 +1,5 @@
+use Rattle.tree_laws.proofs.TreeRight as lemmas
+use Rattle.tree_laws.proofs.laws.writes_keep_trees.Goals as goal
+
+pub returns : goal.returns
+returns c = lemmas.writes-keep
