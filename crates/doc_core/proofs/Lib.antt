@@ -1,3 +1,4 @@
 pub mod Trying
 pub mod Stages
 pub mod Typed
+pub mod Leading

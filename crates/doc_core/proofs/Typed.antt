@@ -29,7 +29,7 @@ pub list_typed : (types : Catalog) (patches : List Patch) (s t : State) → IsSo
 list_typed types patches s t sound typed plain values done = (list-typed types sound patches s t typed plain (values-written patches values) done).typed
 
 -- the write of the root
-root-by : (types : Catalog) (v : Value) (s t : State) (o : Option Label)
+pub root-by : (types : Catalog) (v : Value) (s t : State) (o : Option Label)
     → (or_refuse o [] rule.Path >>= (λ root. after_write types (whole_root root) (set v) s)) ≡ Ok t → (root : Label) × (after_write types (whole_root root) (set v) s ≡ Ok t)
 root-by types v s t None h = absurd (cc)
 root-by types v s t (Some root) h = (root, h)

@@ -2,4 +2,5 @@ pub mod Answers
 pub mod Changing
 pub mod Documents
 pub mod Errors
+pub mod Laws
 pub mod Staging

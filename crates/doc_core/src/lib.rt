@@ -17,9 +17,11 @@
 mod creating;
 mod document;
 mod error;
+mod laws;
 mod reading;
 mod staging;
 
 pub use creating::try_value;
 pub use document::{Document, Staged};
 pub use error::DocError;
+pub use laws::changes_lead;

@@ -1,4 +1,4 @@
-use Rattle.std.proofs.Common.{◌≡◌, ℕ, ◌≤◌, List, length, sym, ap, subst, ◌∙◌}
+use Rattle.std.proofs.Common.{◌≡◌, ℕ, List, ap, ◌∙◌, arith}
 use Rattle.std.specs.Prelude.{insert}
 use Rattle.host_core.specs.declared.held.Held.{Held}
 use Rattle.host_core.specs.Docs.{Doc, with_doc}
@@ -8,11 +8,7 @@ use Rattle.host_core.proofs.AllHeld.{held-inserted}
 use Rattle.host_core.proofs.creating.add.Goals as goal
 
 pub insert-requires : goal.insert-requires
-insert-requires c =
-    let docs : List Held = c.args.docs.now.items in
-    let at : c.place_for-at.result ≡ place_in c.args.name.now docs = c.place_for-at.ensures ∙ ap (place_in c.args.name.now) c.deref.ensures.value in
-    let P : ℕ → Type 0 = λ n. n ≤ length docs in
-    subst P (sym at) (place-within c.args.name.now docs)
+insert-requires c = omega (arith, c.place_for-at.ensures, place-within c.args.name.now c.deref.result.now, c.deref.ensures.len)
 
 pub returns-clause-docs : goal.returns-clause-docs
 returns-clause-docs c =

@@ -1,4 +1,4 @@
-use Rattle.std.proofs.Common.{ap, ◌∙◌}
+use Rattle.std.proofs.Common.{ap, ◌∙◌, arith}
 use Rattle.host_replies.specs.Replies.{removed_reply}
 use Rattle.host_core.specs.Docs.{without}
 use Rattle.host_core.specs.Inside.{held_docs}
@@ -7,7 +7,7 @@ use Rattle.host_core.proofs.AllHeld.{held-removed, discarded}
 use Rattle.host_core.proofs.creating.discard_at.Goals as goal
 
 pub remove-removed-requires : goal.remove-removed-requires
-remove-removed-requires c = stands-within c.args.name.now c.args.at c.args.docs.now.items c.requires.stands
+remove-removed-requires c = omega (arith, stands-within c.args.name.now c.args.at c.args.docs.now.items c.requires.stands, c.args.docs.now.ok.0)
 
 pub returns-clause-answer : goal.returns-clause-answer
 returns-clause-answer c =

@@ -1,0 +1,33 @@
+-- What changes of sound documents do.
+use Rattle.std.specs.Prelude.{◌≡◌, ◌<◌, ◌^◌, List, length, All, Ok}
+use Rattle.snap_core.specs.Value.{Value, IsPlain}
+use Rattle.patch_core.specs.Fits.{LeadsTo}
+use Rattle.patch_core.specs.Inverse.{back}
+use Rattle.patch_core.specs.Printing.{HasPlainValues}
+use Rattle.patch_core.specs.declared.patch.Patch.{Patch}
+use Rattle.type_table.specs.Table.{Catalog}
+use Rattle.edit_core.specs.Labelled.{bare}
+use Rattle.tree_core.specs.State.{State, patches_of}
+use Rattle.tree_laws.specs.Tied.{IsSettled}
+use Rattle.tree_laws.specs.Trees.{IsSoundTree}
+use Rattle.doc_core.specs.Changing.{patched, replaced}
+use Rattle.doc_core.specs.Documents.{IsDocument}
+
+-- a document between requests whose snapshot the root's model makes of itself, and in which no identifier stands twice
+pub record IsSoundDocument (types : Catalog) (s : State) : Type 0 where
+  pub document : IsDocument types s
+  pub sound : IsSoundTree types s
+
+-- A change's patches fit in turn and lead from the snapshot before to the one after, and their inverses, last first, lead
+-- back; and each safe reference that isn't null leads to a node.
+pub record ChangesFully (types : Catalog) (before after : State) : Type 0 where
+  pub leads : LeadsTo (patches_of after) (bare before.tree) (bare after.tree)
+  pub leads_back : LeadsTo (back (patches_of after)) (bare after.tree) (bare before.tree)
+  pub settled : IsSettled types after.tree
+
+-- so do patches, as many as a list of them can hold, and so does a snapshot that is put in the place of a document's own
+pub record ChangesLead : Type 0 where
+  pub by_patches : (types : Catalog) (patches : List Patch) (before after : State) → IsSoundDocument types before → All HasPlainValues patches
+      → length patches < 2 ^ 31 → patched types patches before ≡ Ok after → ChangesFully types before after
+  pub by_snapshot : (types : Catalog) (given : Value) (before after : State) → IsSoundDocument types before → IsPlain given
+      → replaced types given before ≡ Ok after → ChangesFully types before after
