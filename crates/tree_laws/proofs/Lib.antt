@@ -35,3 +35,4 @@ pub mod SettlingRight
 pub mod SettlingLimits
 pub mod SettlingIdentifiers
 pub mod SettlingSound
+pub mod Done

@@ -50,3 +50,20 @@ SettlingKeepsTrees = (types : Catalog) → IsSound types → (s : State) → IsS
 -- settling leaves nothing loose
 abbrev pub SettlingSettles : Type 0
 SettlingSettles = (types : Catalog) → IsSound types → (s : State) → IsSettled types (after_settling types s).tree
+
+-- What a call leaves once the tree is settled: it leads on, is sound, and nothing is loose.
+pub record IsDone (types : Catalog) (before after : State) : Type 0 where
+  pub leads : LeadsOn before after
+  pub sound : IsSoundTree types after
+  pub settled : IsSettled types after.tree
+
+-- so it is after a write and settling, and after a list of patches and settling
+abbrev pub WritesAreDone : Type 0
+WritesAreDone =
+    (types : Catalog) → IsSound types → (before after : State) → IsSoundTree types before → Writes types before after
+    → IsDone types before (after_settling types after)
+
+abbrev pub ListsAreDone : Type 0
+ListsAreDone =
+    (types : Catalog) → IsSound types → (before after : State) → IsSoundTree types before → WritesList types before after
+    → IsDone types before (after_settling types after)

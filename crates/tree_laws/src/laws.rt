@@ -1,4 +1,4 @@
-ghost use Rattle.tree_laws.specs.Laws.{WritesLead, ListsLead, SettlingLeadsOn, LeadingGoesOn, WritesStayTyped, ListsStayTyped, SettlingStaysTyped, WritesKeepTrees, ListsKeepTrees, SettlingKeepsTrees, SettlingSettles};
+ghost use Rattle.tree_laws.specs.Laws.{WritesLead, ListsLead, SettlingLeadsOn, LeadingGoesOn, WritesStayTyped, ListsStayTyped, SettlingStaysTyped, WritesKeepTrees, ListsKeepTrees, SettlingKeepsTrees, SettlingSettles, WritesAreDone, ListsAreDone};
 
 /// The patches of a write fit in turn, lead to the snapshot after it and, taken back, to the one before.
 pub fn writes_lead()
@@ -53,4 +53,14 @@ pub fn settling_keeps_trees()
 /// After settling each safe reference leads to a node, or is null.
 pub fn settling_settles()
     ensures { SettlingSettles }
+{}
+
+/// A write of a sound tree, and settling after it: what was logged leads there and back, and the tree is sound and settled.
+pub fn writes_are_done()
+    ensures { WritesAreDone }
+{}
+
+/// So it is after a list of patches.
+pub fn lists_are_done()
+    ensures { ListsAreDone }
 {}

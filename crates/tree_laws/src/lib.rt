@@ -13,7 +13,7 @@
 mod laws;
 
 pub use laws::{
-    leading_goes_on, lists_keep_trees, lists_lead, lists_stay_typed, settling_keeps_trees,
-    settling_leads_on, settling_settles, settling_stays_typed, writes_keep_trees, writes_lead,
-    writes_stay_typed,
+    leading_goes_on, lists_are_done, lists_keep_trees, lists_lead, lists_stay_typed,
+    settling_keeps_trees, settling_leads_on, settling_settles, settling_stays_typed,
+    writes_are_done, writes_keep_trees, writes_lead, writes_stay_typed,
 };
