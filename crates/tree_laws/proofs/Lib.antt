@@ -36,3 +36,4 @@ pub mod SettlingLimits
 pub mod SettlingIdentifiers
 pub mod SettlingSound
 pub mod Done
+pub mod NewTrees

@@ -1,7 +1,8 @@
 -- What a tree keeps, whatever is written to it.
+use Rattle.snap_core.specs.Value.{Value, IsPlain}
 use Rattle.type_table.specs.Table.{Catalog}
 use Rattle.type_core.specs.Sound.{IsSound}
-use Rattle.tree_core.specs.Recorded.{after_settling}
+use Rattle.tree_core.specs.Recorded.{IsSoundValue, state_of, new_tree, after_settling}
 use Rattle.tree_core.specs.State.{State}
 use Rattle.tree_laws.specs.Trees.{IsTypedTree, IsSoundTree}
 use Rattle.tree_laws.specs.Tied.{IsSettled}
@@ -34,6 +35,10 @@ ListsStayTyped =
 
 abbrev pub SettlingStaysTyped : Type 0
 SettlingStaysTyped = (types : Catalog) → IsSound types → (s : State) → IsTypedTree types s → IsTypedTree types (after_settling types s)
+
+-- a new tree of a sound value is sound
+abbrev pub NewTreesAreSound : Type 0
+NewTreesAreSound = (types : Catalog) (v : Value) → IsSoundValue types v → IsPlain v → IsSoundTree types (state_of (new_tree types v))
 
 -- a sound tree stays sound
 abbrev pub WritesKeepTrees : Type 0

@@ -1,4 +1,4 @@
-ghost use Rattle.tree_laws.specs.Laws.{WritesLead, ListsLead, SettlingLeadsOn, LeadingGoesOn, WritesStayTyped, ListsStayTyped, SettlingStaysTyped, WritesKeepTrees, ListsKeepTrees, SettlingKeepsTrees, SettlingSettles, WritesAreDone, ListsAreDone};
+ghost use Rattle.tree_laws.specs.Laws.{WritesLead, ListsLead, SettlingLeadsOn, LeadingGoesOn, WritesStayTyped, ListsStayTyped, SettlingStaysTyped, NewTreesAreSound, WritesKeepTrees, ListsKeepTrees, SettlingKeepsTrees, SettlingSettles, WritesAreDone, ListsAreDone};
 
 /// The patches of a write fit in turn, lead to the snapshot after it and, taken back, to the one before.
 pub fn writes_lead()
@@ -33,6 +33,11 @@ pub fn lists_stay_typed()
 /// So it is after settling.
 pub fn settling_stays_typed()
     ensures { SettlingStaysTyped }
+{}
+
+/// A new tree of a sound value is sound.
+pub fn new_trees_are_sound()
+    ensures { NewTreesAreSound }
 {}
 
 /// After a write a sound tree is sound: its value is made of itself, and no identifier stands twice.

@@ -14,6 +14,6 @@ mod laws;
 
 pub use laws::{
     leading_goes_on, lists_are_done, lists_keep_trees, lists_lead, lists_stay_typed,
-    settling_keeps_trees, settling_leads_on, settling_settles, settling_stays_typed,
-    writes_are_done, writes_keep_trees, writes_lead, writes_stay_typed,
+    new_trees_are_sound, settling_keeps_trees, settling_leads_on, settling_settles,
+    settling_stays_typed, writes_are_done, writes_keep_trees, writes_lead, writes_stay_typed,
 };
