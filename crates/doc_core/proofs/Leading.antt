@@ -1,5 +1,5 @@
 -- A change leads on, step by step: what is written, and then settling.
-use Rattle.std.proofs.Common.{◌≡◌, ◌<◌, ◌^◌, List, [], ◌∷◌, ◌++◌, length, map, Ok, Err, refl, sym, ap, subst, ◌∙◌}
+use Rattle.std.proofs.Common.{◌≡◌, ◌<◌, ◌^◌, List, [], ◌++◌, length, map, Ok, Err, refl, sym, ap, subst, ◌∙◌}
 use Rattle.std.specs.Prelude.{All}
 use Rattle.snap_core.specs.Value.{Value, IsPlain}
 use Rattle.patch_core.specs.Fits.{LeadsTo}
@@ -23,6 +23,7 @@ use Rattle.tree_laws.proofs.Lists.{lists-lead}
 use Rattle.tree_laws.proofs.Loose.{settling-settles}
 use Rattle.tree_laws.proofs.PlainWrites.{values-written}
 use Rattle.tree_laws.proofs.Settling.{settling-leads}
+use Rattle.tree_laws.proofs.SettlingSound.{settling-keeps}
 use Rattle.tree_laws.proofs.TreeRight.{lists-keep, writes-keep}
 use Rattle.tree_laws.proofs.Writes.{writes-lead}
 use Rattle.doc_core.specs.Changing.{patched, replaced, root_written, whole_root}
@@ -56,6 +57,7 @@ fully types before written after sound rest first right is =
     subst P (sym is) (record {
       leads = subst There (sym logged) leads.on.leads;
       leads_back = subst Back (sym logged) leads.back;
+      sound = settling-keeps types sound written right;
       settled = settling-settles types sound written;
     })
 

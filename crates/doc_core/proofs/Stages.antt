@@ -1,13 +1,12 @@
 -- What is staged, step by step.
-use Rattle.std.proofs.Common.{◌≡◌, ℕ, List, [], Result, Ok, Err, IfOk, IfErr, OnOk, refl, sym, ap, subst, ◌∙◌, arith}
+use Rattle.std.proofs.Common.{◌≡◌, List, [], Result, Ok, Err, IfOk, IfErr, OnOk, refl, sym, ap, subst, ◌∙◌, arith}
 use Rattle.std.specs.Prelude.{All}
-use Rattle.snap_core.specs.Value.{Value, IsPlain}
+use Rattle.snap_core.specs.Value.{Value}
 use Rattle.patch_core.specs.declared.patch.Patch.{Patch}
 use Rattle.patch_core.specs.Printing.{HasPlainValues}
 use Rattle.type_table.specs.Table.{Catalog}
 use Rattle.type_core.specs.Making.{Outcome}
 use Rattle.type_core.specs.Sound.{IsSound}
-use Rattle.edit_core.specs.Labelled.{bare}
 use Rattle.tree_core.specs.declared.error.TreeError.{TreeError}
 use Rattle.tree_core.specs.declared.error.TreeError.TheVariants.{Memory, Refused}
 use Rattle.tree_core.specs.Outcome.{◌>>=◌}

@@ -1,5 +1,5 @@
 -- What writes and settling keep of a document.
-use Rattle.std.proofs.Common.{◌≡◌, List, [], ◌∷◌, map, Option, Some, None, Ok, sym, ap, subst}
+use Rattle.std.proofs.Common.{◌≡◌, List, [], map, Option, Some, None, Ok, sym, subst}
 use Rattle.std.specs.Prelude.{All}
 use Rattle.std.proofs.lemmas.List.Elements.{All-nil}
 use Rattle.snap_core.specs.Value.{Value, IsPlain}
@@ -7,7 +7,6 @@ use Rattle.pointer_core.specs.declared.refusal.Rule.TheVariants as rule
 use Rattle.patch_core.specs.declared.patch.Patch.{Patch}
 use Rattle.patch_core.specs.Printing.{HasPlainValues}
 use Rattle.type_table.specs.Table.{Catalog}
-use Rattle.type_core.specs.Making.{Outcome}
 use Rattle.type_core.specs.Sound.{IsSound}
 use Rattle.edit_core.specs.Labelled.{Label, bare}
 use Rattle.edit_core.specs.Logged.{patch_of_logged}
@@ -16,7 +15,7 @@ use Rattle.tree_core.specs.Outcome.{◌>>=◌, or_refuse}
 use Rattle.tree_core.specs.Recorded.{IsTreeOf, after_list, after_settling, after_write}
 use Rattle.tree_core.specs.State.{State, Calls, edits_of, patches_of}
 use Rattle.tree_core.specs.Write.{set}
-use Rattle.tree_laws.proofs.TreeTyped.{StaysTyped, write-typed, list-typed}
+use Rattle.tree_laws.proofs.TreeTyped.{write-typed, list-typed}
 use Rattle.tree_laws.proofs.SettlingTyped.{settling-typed}
 use Rattle.tree_laws.proofs.PlainWrites.{write-patches, list-patches, settling-patches, values-written}
 use Rattle.doc_core.specs.Changing.{root_written, whole_root}
@@ -40,7 +39,7 @@ root_typed types v s t sound typed plain given done =
     let by = root-by types v s t (label_of s.tree) done in (write-typed types sound (whole_root by.0) (set v) s t typed plain given by.1).typed
 
 -- nothing is logged between requests
-nothing-logged : (s : State) → s.calls ≡ [] → All HasPlainValues (patches_of s)
+pub nothing-logged : (s : State) → s.calls ≡ [] → All HasPlainValues (patches_of s)
 nothing-logged s rest =
     let P : Calls → Type 0 = λ cs. All HasPlainValues (map patch_of_logged (edits_of cs)) in subst P (sym rest) (All-nil HasPlainValues)
 

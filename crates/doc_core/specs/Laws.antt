@@ -19,10 +19,11 @@ pub record IsSoundDocument (types : Catalog) (s : State) : Type 0 where
   pub sound : IsSoundTree types s
 
 -- A change's patches fit in turn and lead from the snapshot before to the one after, and their inverses, last first, lead
--- back; and each safe reference that isn't null leads to a node.
+-- back. The snapshot after is sound again, and each safe reference in it that isn't null leads to a node.
 pub record ChangesFully (types : Catalog) (before after : State) : Type 0 where
   pub leads : LeadsTo (patches_of after) (bare before.tree) (bare after.tree)
   pub leads_back : LeadsTo (back (patches_of after)) (bare after.tree) (bare before.tree)
+  pub sound : IsSoundTree types after
   pub settled : IsSettled types after.tree
 
 -- so do patches, as many as a list of them can hold, and so does a snapshot that is put in the place of a document's own

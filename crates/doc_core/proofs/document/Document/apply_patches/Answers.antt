@@ -1,12 +1,10 @@
-use Rattle.std.proofs.Common.{◌≡◌, Ok, ap, subst}
+use Rattle.std.proofs.Common.{◌≡◌, Ok}
 use Rattle.snap_core.specs.Value.{IsPlain}
 use Rattle.type_table.specs.Table.{Catalog}
-use Rattle.type_core.specs.Making.{Outcome}
 use Rattle.edit_core.specs.Labelled.{bare}
-use Rattle.tree_core.specs.Recorded.{IsTreeOf, after_list, after_settling}
+use Rattle.tree_core.specs.Recorded.{IsTreeOf, after_list}
 use Rattle.tree_core.specs.State.{State}
-use Rattle.live_tree.specs.Contents.{Contents, state}
-use Rattle.live_tree.specs.Laws.{CanBeTakenBack}
+use Rattle.live_tree.specs.Contents.{state}
 use Rattle.doc_core.proofs.Stages.{stages-by, staged-by, plain-by}
 use Rattle.doc_core.proofs.Typed.{settling_typed, list_typed, list_plain}
 use Rattle.doc_core.proofs.document.Document.apply_patches.Goals as goal

@@ -1,13 +1,11 @@
-use Rattle.std.proofs.Common.{◌≡◌, Ok, ap, subst}
+use Rattle.std.proofs.Common.{◌≡◌, Ok}
 use Rattle.snap_core.specs.Value.{IsPlain}
 use Rattle.snap_core.specs.View.{view}
 use Rattle.type_table.specs.Table.{Catalog}
-use Rattle.type_core.specs.Making.{Outcome}
 use Rattle.edit_core.specs.Labelled.{bare}
 use Rattle.tree_core.specs.Recorded.{IsTreeOf}
 use Rattle.tree_core.specs.State.{State}
-use Rattle.live_tree.specs.Contents.{Contents, state}
-use Rattle.live_tree.specs.Laws.{CanBeTakenBack}
+use Rattle.live_tree.specs.Contents.{state}
 use Rattle.doc_core.specs.Changing.{root_written}
 use Rattle.doc_core.proofs.Stages.{stages-by, staged-by, plain-by}
 use Rattle.doc_core.proofs.Typed.{settling_typed, root_typed, root_plain}

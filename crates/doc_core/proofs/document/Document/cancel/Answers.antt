@@ -1,5 +1,4 @@
 use Rattle.std.proofs.Common.{sym, subst, ◌∙◌}
-use Rattle.tree_core.specs.State.{State}
 use Rattle.live_tree.specs.Contents.{Contents, state}
 use Rattle.live_tree.specs.Laws.{CanBeTakenBack}
 use Rattle.doc_core.proofs.Stages.{as-given-back, mark-at_rest}
