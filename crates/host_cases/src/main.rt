@@ -28,6 +28,8 @@ const TABLES: &[&str] = &[
     "ports.cases",
     "shelf.cases",
     "office.cases",
+    "documents.cases",
+    "sequences.cases",
 ];
 
 /// How many bytes a read takes at most, where a case is run with all of these.

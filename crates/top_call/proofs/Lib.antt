@@ -5,4 +5,3 @@ pub mod Rising
 pub mod Runs
 pub mod Says
 pub mod StatusLaws
-pub mod Statuses

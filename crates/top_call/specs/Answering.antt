@@ -1,16 +1,16 @@
 -- What answers the requests of a schema: here alone it is said which state it has, and what it replies.
-use Rattle.std.specs.Prelude.{◌≡◌}
+use Rattle.std.specs.Prelude.{[]}
 use Rattle.expr_core.specs.Schema.{Schema}
+use Rattle.host_core.specs.Host as host
 use Rattle.link_core.specs.Link.{Replies}
-use Rattle.top_call.specs.Checking.{reply_to}
 
--- the state that goes from request to request, and the one before the first
+-- the state that goes from request to request, and the one before the first: a host that has no documents yet
 abbrev pub State : Type 0
-State = Schema
+State = host.Hosted
 
 abbrev pub start : Schema → State
-start schema = schema
+start schema = record { schema = schema; shown = [] }
 
--- a request gets its reply by the schema's types, and nothing is kept of it
+-- a request gets what the host's plain definition says
 abbrev pub replies : Replies State
-replies state request reply next = (reply ≡ reply_to state.types request) × (next ≡ state)
+replies = host.Replies

@@ -1,5 +1,4 @@
 pub mod Answering
-pub mod Checking
 pub mod Exit
 pub mod Report
 pub mod Run

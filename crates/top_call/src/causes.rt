@@ -9,7 +9,7 @@ ghost use Rattle.top_call.specs.declared.exit.Exit as declared;
 ghost use Rattle.top_call.specs.Report.{Tells};
 ghost use Rattle.top_call.specs.Run.{Run, Ends, IsRun, IsServing, IsCheck, IfSchemaFile, IsTooLong, IsSchemaFile, IsServed, Refuses, SchemaIsGiven, RequestsAreGiven, AreReplied};
 
-use crate::checker::Checker;
+use crate::answering::Answerer;
 use schema_read::{file_is_one_schema, schema_has_no_fault};
 use serve_core::{door_completes, ends_have_causes};
 
@@ -53,7 +53,7 @@ pub fn statuses_have_causes()
         → (exit : declared.Exit)
         × Tells (record { command = r.command; exit = exit; status = status }) r.world_before r.world_after }
 {
-    ends_have_causes::<Checker>();
+    ends_have_causes::<Answerer>();
 }
 
 /// What comes of a run in which the outside fails nowhere.
@@ -69,8 +69,8 @@ pub fn answers_what_is_given()
         → ¬ (DoorHasFailed r.door_before r.door_after)
         → (status ≡ 7) ⊎ ((status ≡ 0) × AreReplied r schema requests given) }
 {
-    door_completes::<Checker>();
-    ends_have_causes::<Checker>();
+    door_completes::<Answerer>();
+    ends_have_causes::<Answerer>();
     schema_has_no_fault();
     file_is_one_schema();
 }

@@ -8,12 +8,12 @@
 //!
 //! Each status has its cause, which the laws of `causes` state one by one, and each byte that is
 //! written is the one that is due. No file is read but the schema file, and nothing is attached but
-//! where the command says. What answers the requests is made in `serve` and said in `Answering.antt`,
-//! and nowhere else.
+//! where the command says. What answers the requests is named and made in `answering`, and said in
+//! `Answering.antt`, and nowhere else.
 #![tactic(auto)]
 
+mod answering;
 mod causes;
-mod checker;
 mod exit;
 mod load;
 mod program;

@@ -5,7 +5,7 @@ ghost use Rattle.serve_core.specs.Serving.{port_of};
 ghost use Rattle.type_core.specs.Sound.{IsSound};
 ghost use Rattle.top_call.specs.RunInside as inside;
 
-use crate::checker::Checker;
+use crate::answering::{Answerer, begin};
 use crate::exit::Exit;
 use edge_core::Door;
 use expr_core::Schema;
@@ -29,12 +29,22 @@ pub fn serve<D: Door>(alloc: Global, schema: Schema, door: &mut D, plan: Plan) -
     ensures none_open { (D.state door.new).is_open ≡ false }
     ensures count { (D.state door.old).fault_count ≤ (D.state door.new).fault_count }
 {
-    ends_have_causes::<Checker>();
+    ends_have_causes::<Answerer>();
+    types_are_sound(&schema);
     let Ok(mut room) = Room::new(alloc) else {
         return Exit::Memory;
     };
-    let mut answers = Checker::new(alloc, schema);
+    let Ok(mut answers) = begin(alloc, schema) else {
+        return Exit::Memory;
+    };
     exit_of(serve_door(alloc, &mut answers, door, &mut room, plan))
+}
+
+// The types of a schema have no fault. It does nothing.
+fn types_are_sound(schema: &Schema)
+    ensures { IsSound schema.now.types }
+{
+    let _ = schema.types().root();
 }
 
 // How the program ends where serving ended so.
