@@ -66,7 +66,7 @@ place-inserted name (h ∷ docs) new same =
     let Named : List ℕ → Type 0 = λ n. By (is_lt (slice_cmp nat_cmp n h.name)) (place_in name (h ∷ docs)) in
     let Either : Bool → Type 0 = λ b. By b (if b then zero else suc (place_in name docs)) in
     let further : Either false = ap (λ ds. held_doc h ∷ ds) (place-inserted name docs new same) in
-    subst Named (sym same) (elim (is_lt (slice_cmp nat_cmp name h.name)) as Either [ | true ↦ refl | false ↦ further ])
+    subst Named (sym same) (elim (is_lt (slice_cmp nat_cmp name h.name)) as Either [ true ↦ refl | false ↦ further ])
 
 -- going on behind a document
 pub drop-here : (docs : List Held) (i : ℕ) (h : Held) → i < length docs → h ≡ get_or docs i h → drop i docs ≡ h ∷ drop (i + 1) docs

@@ -8,3 +8,4 @@ pub mod Pointing
 pub mod Replying
 pub mod Hosting
 pub mod OneDocument
+pub mod SoundChanges

@@ -6,3 +6,4 @@ pub mod Inside
 pub mod Keeping
 pub mod Laws
 pub mod Reading
+pub mod Sound

@@ -20,4 +20,4 @@ mod reading;
 mod visit;
 
 pub use host::Host;
-pub use laws::{names_ascend, others_stay, replies_are_own};
+pub use laws::{changes_tell, names_ascend, others_stay, replies_are_own};

@@ -11,10 +11,12 @@ remove-removed-requires c = omega (arith, stands-within c.args.name.now c.args.a
 
 pub returns-clause-answer : goal.returns-clause-answer
 returns-clause-answer c =
-    let docs = c.args.docs.now.items in
-    (record { reply = removed_reply c.args.name.now; docs = without c.args.name.now (held_docs docs) },
-    discarded c.args.name.now docs c.args.at c.requires.stands, c.in_ok-reply.ensures,
-    ap held_docs c.remove-removed.ensures.items ∙ stands-removed c.args.name.now c.args.at docs c.requires.stands)
+    let docs = c.args.docs.now.items in (
+      record { reply = removed_reply c.args.name.now; docs = without c.args.name.now (held_docs docs) },
+      discarded c.args.name.now docs c.args.at c.requires.stands,
+      c.in_ok-reply.ensures,
+      ap held_docs c.remove-removed.ensures.items ∙ stands-removed c.args.name.now c.args.at docs c.requires.stands,
+    )
 
 pub returns-clause-held : goal.returns-clause-held
 returns-clause-held c =

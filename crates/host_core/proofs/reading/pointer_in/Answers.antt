@@ -9,7 +9,8 @@ use Rattle.host_core.proofs.reading.pointer_in.Goals as goal
 pub returns : goal.returns
 returns c =
     let text : List ℕ = pointer_text c.args.visit.now.request.now.query.now in
-    let named : c.text_of.result.now ≡ text = c.text_of.ensures ∙ ap (λ (o : Option (List ℕ)). unwrap_or o []) c.in_ok-found.ensures in
-    (rule_reply Pointer,
-    (no-pointer text c.text_of.result.now c.parse.result c.in-Err.error named c.in-Err.is c.in_ok-pointer_refusal-in-Err.ensures.cause c.parse.ensures.fault, refl),
-    c.in_ok-pointer_refusal-in-Err.ensures.reply)
+    let named : c.text_of.result.now ≡ text = c.text_of.ensures ∙ ap (λ (o : Option (List ℕ)). unwrap_or o []) c.in_ok-found.ensures in (
+      rule_reply Pointer,
+      (no-pointer text c.text_of.result.now c.parse.result c.in-Err.error named c.in-Err.is c.in_ok-pointer_refusal-in-Err.ensures.cause c.parse.ensures.fault, refl),
+      c.in_ok-pointer_refusal-in-Err.ensures.reply,
+    )
