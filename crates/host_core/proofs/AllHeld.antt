@@ -1,9 +1,9 @@
 -- Documents that are held stay so: with another one in a place, with one more, and with one fewer.
-use Rattle.std.proofs.Common.{◌≡◌, ℕ, ◌<◌, List, [], ◌∷◌, ◌++◌, Bool, true, false, Result, Ok, Err, get_or, set, take, drop, suc, refl, sym, ap, subst, ◌∙◌, if◌then◌else◌}
-use Rattle.std.specs.Prelude.{All, OnErr, insert, remove, is_some, None}
+use Rattle.std.proofs.Common.{◌≡◌, ℕ, List, ◌∷◌, Bool, Result, Ok, Err, get_or, set, take, drop, suc, sym, ap, subst, ◌∙◌, if◌then◌else◌}
+use Rattle.std.specs.Prelude.{All, OnErr, insert, remove, None}
 use Rattle.std.specs.declared.alloc.AllocError.{AllocError}
 use Rattle.std.proofs.lemmas.List.Elements.{All-set, All-append, All-take, All-drop, All-cons}
-use Rattle.snap_core.specs.Value.{Value, AreAscending}
+use Rattle.snap_core.specs.Value.{AreAscending}
 use Rattle.pointer_core.specs.declared.refusal.Rule.TheVariants.{Unknown}
 use Rattle.type_table.specs.Table.{Catalog}
 use Rattle.live_tree.specs.Contents.{state}
@@ -11,7 +11,7 @@ use Rattle.doc_core.specs.Documents.{IsDocument}
 use Rattle.host_replies.specs.Replies.{rule_reply, removed_reply}
 use Rattle.host_core.specs.declared.held.Held.{Held}
 use Rattle.host_core.specs.Asking.{Answer, discarding, unchanged}
-use Rattle.host_core.specs.Docs.{Doc, Docs, AreNamed, find, names_of, with_doc, with_snapshot, without}
+use Rattle.host_core.specs.Docs.{Doc, AreNamed, find, names_of, with_doc, with_snapshot, without}
 use Rattle.host_core.specs.Inside.{AreHeld, StandsAt, held_docs, snapshot_of}
 use Rattle.host_core.proofs.Holding.{stands-found, stands-set, stands-removed, stands-some, with_snapshot-same, names-with_snapshot}
 use Rattle.host_core.proofs.Naming.{named-with_doc, named-without}

@@ -1,12 +1,11 @@
 -- What is found of a name once documents change.
-use Rattle.std.proofs.Common.{◌≡◌, ℕ, List, [], ◌∷◌, Bool, true, false, Option, Some, None, refl, sym, ap, subst, ◌∙◌, if◌then◌else◌}
+use Rattle.std.proofs.Common.{◌≡◌, ℕ, List, [], ◌∷◌, true, false, Some, None, refl, sym, ap, subst, ◌∙◌, if◌then◌else◌}
 use Rattle.std.specs.Prelude.{◌≢◌}
-use Rattle.std.specs.Ordering.{is_lt, is_eq}
+use Rattle.std.specs.Ordering.{is_eq}
 use Rattle.std.specs.Str.{bytes_eq}
 use Rattle.std.proofs.lemmas.Map.Text.{is_eq-slice_cmp}
 use Rattle.std.proofs.lemmas.Slice.Eq.{bytes_eq-Decides}
 use Rattle.snap_core.specs.Value.{Value, ComesBefore}
-use Rattle.snap_core.proofs.Finding.{key_cmp}
 use Rattle.snap_core.proofs.Levels.{same_key, key_before}
 use Rattle.host_core.proofs.Naming.{before-first}
 use Rattle.host_core.specs.Docs.{Doc, Docs, AreNamed, find, names_of, with_doc, with_snapshot, without}

@@ -8,7 +8,7 @@ use Rattle.route_core.specs.Ask.{Asked, asked_by}
 use Rattle.host_core.specs.declared.held.Held.{Held}
 use Rattle.host_core.specs.Asking.{Visit, Answer, AnswersAsked}
 use Rattle.host_core.specs.Docs.{Docs}
-use Rattle.host_core.specs.Host.{Hosted, Replies, Shown, doc_of, docs_of}
+use Rattle.host_core.specs.Host.{Hosted, Replies, Shown, docs_of}
 use Rattle.host_core.specs.Inside.{IsAnswered, held_docs, shown_of}
 use Rattle.host_core.proofs.Telling.{told, told-same}
 

@@ -1,6 +1,5 @@
 -- What is staged, once it is kept or taken back.
-use Rattle.std.proofs.Common.{◌≡◌, ℕ, ◌≤◌, List, [], Bool, Result, Ok, Err, refl, sym, ap, subst, ◌∙◌, arith}
-use Rattle.snap_core.specs.Value.{Value}
+use Rattle.std.proofs.Common.{◌≡◌, ℕ, List, Bool, Ok, Err, refl, sym, ap, subst, ◌∙◌, arith}
 use Rattle.patch_core.specs.declared.patch.Patch.{Patch}
 use Rattle.pointer_core.specs.declared.refusal.Refusal.{Refusal}
 use Rattle.type_table.specs.Table.{Catalog}
@@ -17,8 +16,8 @@ use Rattle.http_front.specs.Reply.{printed}
 use Rattle.doc_core.specs.Documents.{IsDocument}
 use Rattle.doc_core.specs.Staging.{IsAsBefore}
 use Rattle.host_replies.specs.Replies.{change_reply}
-use Rattle.host_core.specs.Answering.{Done, change_done, refusal_reply}
-use Rattle.host_core.specs.Keeping.{Staging, IsKept}
+use Rattle.host_core.specs.Answering.{change_done, refusal_reply}
+use Rattle.host_core.specs.Keeping.{IsKept}
 
 -- a document as before is a document as before
 pub before-document : (types : Catalog) (before after : State) → IsAsBefore before after → IsDocument types before → IsDocument types after

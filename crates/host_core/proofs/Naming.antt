@@ -1,11 +1,11 @@
 -- Names ascend: with one document more, and with one fewer.
-use Rattle.std.proofs.Common.{◌≡◌, ℕ, List, [], ◌∷◌, Bool, true, false, Option, Some, None, refl, sym, ap, subst, ◌∙◌, if◌then◌else◌}
+use Rattle.std.proofs.Common.{◌≡◌, ℕ, List, [], ◌∷◌, true, false, Some, None, if◌then◌else◌}
 use Rattle.std.specs.declared.cmp.Ordering.TheVariants.{Less}
 use Rattle.std.specs.Ordering.{nat_cmp, is_lt}
 use Rattle.std.specs.Cmp.Lexicographic.{slice_cmp}
 use Rattle.std.specs.Str.{bytes_eq}
 use Rattle.std.proofs.lemmas.Cmp.{nat_list_cmp_total}
-use Rattle.snap_core.specs.Value.{ComesBefore, AreAscending}
+use Rattle.snap_core.specs.Value.{ComesBefore}
 use Rattle.snap_core.proofs.Levels.{other_before, same_key, key_before}
 use Rattle.host_core.specs.Docs.{Doc, Docs, AreNamed, find, names_of, with_doc, without}
 

@@ -1,5 +1,5 @@
 -- What a request does to the names, to other documents, and by one document alone.
-use Rattle.std.proofs.Common.{◌≡◌, ℕ, List, [], ◌∷◌, Bool, true, false, Option, Some, None, Ok, Err, refl, sym, ap, subst, ◌∙◌, if◌then◌else◌}
+use Rattle.std.proofs.Common.{◌≡◌, ℕ, List, Bool, true, false, Option, Some, None, Ok, Err, refl, sym, ap, subst, ◌∙◌, if◌then◌else◌}
 use Rattle.std.specs.Prelude.{◌≢◌, is_some, MatchOption}
 use Rattle.snap_core.specs.Value.{Value, AreAscending}
 use Rattle.pointer_core.specs.declared.refusal.Rule.TheVariants as rule
@@ -12,8 +12,8 @@ use Rattle.http_front.specs.Reply.{Reply}
 use Rattle.route_core.specs.Ask.{Ask, try, list, create, discard, show, replace, change, resolve, Asked, unknown, wrong, well, asked_by}
 use Rattle.host_replies.specs.Replies.{rule_reply, removed_reply}
 use Rattle.host_core.specs.Answering.{Done}
-use Rattle.host_core.specs.Asking.{Visit, Answer, unchanged, doc_made, doc_read, creating, discarding, after_done, On, Shows, Resolves, Replaces, Changes, AnswersAsk, AnswersAsked, Steps}
-use Rattle.host_core.specs.Docs.{Doc, Docs, AreNamed, are_full, find, names_of, with_doc, with_snapshot, without}
+use Rattle.host_core.specs.Asking.{Visit, Answer, unchanged, doc_made, doc_read, creating, discarding, after_done, On, Shows, Resolves, Replaces, Changes, AnswersAsk, AnswersAsked}
+use Rattle.host_core.specs.Docs.{Doc, Docs, AreNamed, are_full, find, with_doc, with_snapshot, without}
 use Rattle.host_core.specs.Laws.{NamesAscend, OthersStay, RepliesAreOwn, Alike, named_in, name_asked}
 use Rattle.host_core.specs.Reading.{Read, value_in}
 use Rattle.host_core.proofs.Holding.{names-with_snapshot}

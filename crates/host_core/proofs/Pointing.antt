@@ -1,5 +1,5 @@
 -- What a query's pointer comes to.
-use Rattle.std.proofs.Common.{◌≡◌, ℕ, List, Option, Some, None, Result, Ok, Err, refl, subst}
+use Rattle.std.proofs.Common.{◌≡◌, ℕ, List, Option, Some, None, Result, Err, refl, subst}
 use Rattle.std.specs.Prelude.{IsSome, MatchOption, IfErr, IsErrOf}
 use Rattle.pointer_core.specs.Path.{Path}
 use Rattle.pointer_core.specs.Spelling.{pointer_fault}

@@ -1,5 +1,5 @@
 -- Changes of sound documents, from the copy that a request works on to the snapshots that are told.
-use Rattle.std.proofs.Common.{◌≡◌, ◌<◌, ◌^◌, ℕ, List, length, Bool, true, false, Option, Some, None, Result, Ok, Err, IfOk, inl, inr, refl, sym, ap, subst, ◌∙◌, if◌then◌else◌}
+use Rattle.std.proofs.Common.{◌≡◌, ◌<◌, ◌^◌, ℕ, List, length, Bool, true, false, Option, Some, None, Result, Ok, Err, IfOk, inl, inr, refl, sym, subst, if◌then◌else◌}
 use Rattle.std.specs.Prelude.{All}
 use Rattle.std.specs.Str.{is_utf8}
 use Rattle.serde_json.specs.Data.{Data}
@@ -9,12 +9,10 @@ use Rattle.snap_core.specs.Value as value
 use Rattle.patch_core.specs.Fits.{LeadsTo}
 use Rattle.patch_core.specs.Inverse.{back}
 use Rattle.patch_core.specs.Printing.{HasPlainValues}
-use Rattle.patch_core.specs.Reading.{IsReadAs, spellings_of}
 use Rattle.patch_core.specs.declared.error.PatchError.{PatchError}
 use Rattle.patch_core.specs.declared.patch.Patch.{Patch}
 use Rattle.patch_core.proofs.ReadValues.{read_plain}
-use Rattle.snap_json.specs.Reading.{Reading, reading, value_of, found_in, found, syntax, unwhole}
-use Rattle.snap_json.specs.Reading as json
+use Rattle.snap_json.specs.Reading.{value_of, found_in, found, syntax}
 use Rattle.snap_json.proofs.Readings.{plain_read}
 use Rattle.type_table.specs.Table.{Catalog}
 use Rattle.type_core.specs.Making.{Outcome}
@@ -26,11 +24,10 @@ use Rattle.doc_core.specs.Documents.{IsCopy}
 use Rattle.doc_core.specs.Laws.{IsSoundDocument, ChangesFully}
 use Rattle.doc_core.proofs.Leading.{changes-lead}
 use Rattle.doc_core.proofs.Typed.{nothing-logged}
-use Rattle.http_front.specs.Reply.{Reply}
-use Rattle.host_core.specs.Answering.{Done, change_done, patching, replacing, stays}
+use Rattle.host_core.specs.Answering.{Done, change_done, patching, replacing}
 use Rattle.host_core.specs.Asking.{Visit, Changes, Replaces}
 use Rattle.host_core.specs.Reading.{Read, Lists, ListsIn, Spells, value_in, value_read}
-use Rattle.host_core.specs.Sound.{IsSoundSnapshot, TellsChange, StaysSound, ChangesTell}
+use Rattle.host_core.specs.Sound.{IsSoundSnapshot, StaysSound, ChangesTell}
 
 -- a copy of a sound snapshot is a sound document
 copy-sound : (types : Catalog) (snapshot : Value) (s : State) → IsCopy types snapshot s → IsSoundSnapshot types snapshot → IsSoundDocument types s

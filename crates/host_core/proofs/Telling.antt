@@ -4,7 +4,7 @@ use Rattle.snap_core.specs.Value.{Value}
 use Rattle.snap_core.specs.Unview.{snap_of}
 use Rattle.snap_core.proofs.Views.{view-snap_of}
 use Rattle.host_core.specs.declared.held.Held.{Held}
-use Rattle.host_core.specs.Docs.{Doc, Docs, names_of}
+use Rattle.host_core.specs.Docs.{Doc, names_of}
 use Rattle.host_core.specs.Host.{Shown, doc_of}
 use Rattle.host_core.specs.Inside.{held_doc, held_docs, shown_of, snapshot_of}
 

@@ -6,7 +6,7 @@ use Rattle.expr_core.specs.Schema.{Schema}
 use Rattle.http_front.specs.Reply.{Reply}
 use Rattle.http_front.specs.Request.{Request}
 use Rattle.host_core.specs.Docs.{Doc, Docs}
-use Rattle.host_core.specs.Asking.{Visit, Answer, Steps}
+use Rattle.host_core.specs.Asking.{Steps}
 
 -- a document as it is told: its name and its snapshot
 pub record Shown : Type 0 where

@@ -1,6 +1,5 @@
 -- What holds of every request to a host.
-use Rattle.std.specs.Prelude.{◌≡◌, ◌≢◌, ℕ, List, [], ◌∷◌, false, Option, Some, None}
-use Rattle.http_front.specs.Reply.{Reply}
+use Rattle.std.specs.Prelude.{◌≡◌, ◌≢◌, ℕ, List, false, Option, Some, None}
 use Rattle.route_core.specs.Ask.{Ask, try, list, create, discard, show, replace, change, resolve, Asked, unknown, wrong, well, asked_by}
 use Rattle.host_core.specs.Asking.{Visit, Answer, Steps}
 use Rattle.host_core.specs.Docs.{Docs, AreNamed, are_full, find}

@@ -1,7 +1,7 @@
 use Rattle.tree_core.specs.State.{State}
 use Rattle.live_tree.specs.Contents.{state}
 use Rattle.doc_core.specs.Changing.{patched}
-use Rattle.host_core.specs.Keeping.{Staging, IsStaged}
+use Rattle.host_core.specs.Keeping.{Staging}
 use Rattle.host_core.proofs.document.change_by.Goals as goal
 
 pub returns-clause-done : goal.returns-clause-done

@@ -1,5 +1,4 @@
 use Rattle.std.proofs.Common.{ap}
-use Rattle.tree_core.specs.State.{State}
 use Rattle.edit_core.specs.Labelled.{bare}
 use Rattle.live_tree.specs.Contents.{state}
 use Rattle.doc_core.specs.Staging.{IsAsBefore}

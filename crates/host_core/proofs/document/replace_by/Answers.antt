@@ -2,7 +2,7 @@ use Rattle.snap_core.specs.View.{view}
 use Rattle.tree_core.specs.State.{State}
 use Rattle.live_tree.specs.Contents.{state}
 use Rattle.doc_core.specs.Changing.{replaced}
-use Rattle.host_core.specs.Keeping.{Staging, IsStaged}
+use Rattle.host_core.specs.Keeping.{Staging}
 use Rattle.host_core.proofs.document.replace_by.Goals as goal
 
 pub returns-clause-done : goal.returns-clause-done

@@ -1,10 +1,8 @@
-use Rattle.std.proofs.Common.{◌≡◌, Ok, Err, IfOk, refl}
-use Rattle.snap_core.specs.Value.{Value}
+use Rattle.std.proofs.Common.{Ok, Err, refl}
 use Rattle.tree_core.specs.Asking.{shown}
 use Rattle.tree_core.specs.State.{State}
 use Rattle.live_tree.specs.Contents.{state}
 use Rattle.doc_core.specs.Documents.{IsCopy}
-use Rattle.http_front.specs.Reply.{printed}
 use Rattle.host_core.specs.Answering.{showing, stays}
 use Rattle.host_core.specs.Asking.{Shows, Visit}
 use Rattle.host_core.specs.Inside.{closes, snapshot_of, visit_of}

@@ -1,7 +1,6 @@
 -- Going on behind a document of another name.
 use Rattle.std.proofs.Common.{◌≡◌, ◌+◌, ◌∷◌, drop, true, false, sym, ap, ◌∙◌, arith}
 use Rattle.std.specs.Str.{bytes_eq}
-use Rattle.host_core.specs.declared.held.Held.{Held}
 use Rattle.host_core.proofs.Holding.{drop-here, stands-next, stands-here, find-next}
 use Rattle.host_core.proofs.held.position.Goals as goal
 

@@ -1,5 +1,3 @@
-use Rattle.std.proofs.Common.{◌≡◌, ap, ◌∙◌}
-use Rattle.std.specs.Prelude.{OnErr}
 use Rattle.http_front.specs.Request as request
 use Rattle.route_core.specs.Ask.{seen}
 use Rattle.host_core.proofs.Hosting.{host-replies, host-err}
