@@ -1,0 +1,4 @@
+pub mod Views
+pub mod Bounded
+pub mod Lengths
+pub mod Indices
