@@ -1,9 +1,0 @@
-pub mod Telling
-pub mod Parts
-pub mod Walking
-pub mod Looking
-pub mod Numbering
-pub mod Joining
-pub mod Operands
-pub mod Rooms
-pub mod Stmts
