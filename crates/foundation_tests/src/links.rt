@@ -2,7 +2,7 @@ ghost use Rattle.std.specs.Prelude.{◌≡◌, None, false};
 
 use edge_core::{Calls, Door, DoorFault, Inputs, MemoryDoor};
 use http_front::{Request, print_reply};
-use link_core::{Answers, LinkEnd, Room, serve_link};
+use link_core::{Handler, LinkEnd, Room, serve_link};
 use snap_core::Bytes;
 use std::alloc::{AllocError, Global};
 use std::test::Fail;
@@ -11,7 +11,7 @@ use std::test::Fail;
 #[derive(Clone, Copy)]
 struct Paths(Global);
 
-impl Answers for Paths {
+impl Handler for Paths {
     ghost replies = { λ _ request reply _. reply ≡ record { status = 200; allow = None; body = request.path } };
 
     fn answer(&mut self, request: &Request<'_>) -> Result<Bytes, AllocError> {

@@ -6,7 +6,7 @@ use crate::held::Held;
 use crate::visit::Visit;
 use expr_core::Schema;
 use http_front::Request;
-use link_core::Answers;
+use link_core::Handler;
 use route_core::Routes;
 use snap_core::Bytes;
 use std::alloc::{AllocError, Global};
@@ -49,7 +49,7 @@ impl Host {
     }
 }
 
-impl Answers for Host {
+impl Handler for Host {
     ghost use Rattle.host_core.specs.Host.{Replies};
 
     ghost replies = { Replies };

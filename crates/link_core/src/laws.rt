@@ -1,11 +1,11 @@
 ghost use Rattle.link_core.specs.Laws.{LinkCompletes};
 
-use crate::answers::Answers;
+use crate::handler::Handler;
 use http_front::{front_of_whole, nothing_is_partial, whole_is_only, whole_stays};
 
 /// Whole requests on a link are answered one after another, each of them, in whatever pieces they
 /// came, unless the door fails or memory runs out.
-pub fn link_completes<A: Answers>()
+pub fn link_completes<A: Handler>()
     ensures { LinkCompletes A.replies }
 {
     whole_is_only();

@@ -8,21 +8,21 @@
 //! }
 //! ```
 //!
-//! `serve_link` promises that the replies are those that `Answers` may give to the requests that the
+//! `serve_link` promises that the replies are those that the `Handler` may give to the requests that the
 //! link's bytes are, one after another, in whatever pieces the bytes come, and it says how each way
 //! to end came about. A link is closed after 1,000,000 requests.
 #![tactic(auto)]
 
-mod answers;
 mod end;
+mod handler;
 mod laws;
 mod replies;
 mod room;
 mod serve;
 mod write;
 
-pub use answers::Answers;
 pub use end::LinkEnd;
+pub use handler::Handler;
 pub use laws::link_completes;
 pub use room::Room;
 pub use serve::serve_link;

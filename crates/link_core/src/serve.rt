@@ -6,8 +6,8 @@ ghost use Rattle.http_front.specs.Request.{seen};
 ghost use Rattle.link_core.specs.Inside as inside;
 ghost use Rattle.link_core.specs.Link as link;
 
-use crate::answers::Answers;
 use crate::end::LinkEnd;
+use crate::handler::Handler;
 use crate::replies::{memory_bytes, print_refusal};
 use crate::room::Room;
 use crate::write::write_all;
@@ -20,7 +20,7 @@ const MOST_REQUESTS: usize = 1_000_000;
 
 /// Serves the open link of a door: answers each request in turn until the link ends or is closed,
 /// and shuts it.
-pub fn serve_link<A: Answers, D: Door>(
+pub fn serve_link<A: Handler, D: Door>(
     alloc: Global,
     answers: &mut A,
     door: &mut D,
@@ -42,7 +42,7 @@ pub fn serve_link<A: Answers, D: Door>(
 }
 
 // Serves the open link to its end.
-fn serve_open<A: Answers, D: Door>(
+fn serve_open<A: Handler, D: Door>(
     alloc: Global,
     answers: &mut A,
     door: &mut D,
@@ -105,7 +105,7 @@ fn input_end(room: &Room) -> LinkEnd
 }
 
 // Answers a request. Where the link doesn't go on after it, it says how the link ends.
-fn give_reply<A: Answers, D: Door>(
+fn give_reply<A: Handler, D: Door>(
     answers: &mut A,
     door: &mut D,
     request: &Request<'_>,

@@ -8,7 +8,7 @@ use Rattle.snap_core.specs.declared.number.TypeNo.{TypeNo}
 use Rattle.snap_core.specs.declared.number.ModelNo.{ModelNo}
 use Rattle.type_table.specs.declared.shape.Shape.{Shape}
 use Rattle.type_table.specs.declared.shape.Shape.TheVariants as shape
-use Rattle.type_table.specs.Table.{Plan, NamesModel, HoldsPlain, IsShapeOf, AreTyped, plan_of, leads_of, parts_of}
+use Rattle.type_table.specs.Table.{Plan, NamesModel, HoldsPlain, IsShapeOf, AreTyped, plan_of, leads_of, types_below}
 use Rattle.schema_form.specs.declared.form.SchemaForm.{SchemaForm}
 use Rattle.schema_form.specs.declared.form.Entry.{Entry}
 use Rattle.schema_form.specs.declared.form.EntryNo.{EntryNo}
@@ -46,7 +46,7 @@ one_below : (count : ℕ) (u : TypeNo) → u.0 < count → Below count (u ∷ []
 one_below count u h = All-cons (λ (u : TypeNo). u.0 < count) u [] h (none_below count)
 
 -- shapes of a plan, by what they name
-made_of : (p : Plan) (s : Shape) → NamesModel p.models s → Below (length p.shapes) (leads_of s) → Below (length p.shapes) (parts_of s) → HoldsPlain s
+made_of : (p : Plan) (s : Shape) → NamesModel p.models s → Below (length p.shapes) (leads_of s) → Below (length p.shapes) (types_below s) → HoldsPlain s
     → IsShapeOf p s
 made_of p s model leads parts plain = record { model = model; types = record { leads = leads; parts = parts }; plain = plain }
 

@@ -5,12 +5,12 @@ ghost use Rattle.serve_core.specs.Serving as serving;
 
 use crate::plan::{Plan, ServeEnd};
 use edge_core::Door;
-use link_core::{Answers, Room, serve_link};
+use link_core::{Handler, Room, serve_link};
 use std::alloc::Global;
 
 /// Attaches a door and serves its links, one after another, as many as the plan has. The state of
 /// `answers` goes on from link to link.
-pub fn serve_door<A: Answers, D: Door>(
+pub fn serve_door<A: Handler, D: Door>(
     alloc: Global,
     answers: &mut A,
     door: &mut D,
@@ -32,7 +32,7 @@ pub fn serve_door<A: Answers, D: Door>(
 }
 
 // Serves the links of an attached door.
-fn serve_links<A: Answers, D: Door>(
+fn serve_links<A: Handler, D: Door>(
     alloc: Global,
     answers: &mut A,
     door: &mut D,
@@ -59,7 +59,7 @@ fn serve_links<A: Answers, D: Door>(
 }
 
 // Serves the next link, and answers how serving ends, where it does.
-fn serve_next<A: Answers, D: Door>(
+fn serve_next<A: Handler, D: Door>(
     alloc: Global,
     answers: &mut A,
     door: &mut D,

@@ -23,7 +23,7 @@ pub enum ReadError {
     #[error("no JSON")]
     Syntax,
     /// The first number that isn't whole, or past what a value holds, stands here.
-    #[error("a number that is not whole")]
+    #[error("the number at `{path}` isn't whole")]
     Whole { path: Pointer },
 }
 

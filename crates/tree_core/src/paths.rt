@@ -18,7 +18,7 @@ fn index_token(alloc: Global, index: usize) -> Result<Token, AllocError>
 }
 
 /// The path of a node's part under a key.
-pub fn under(alloc: Global, node: &Pointer, key: &str) -> Result<Pointer, AllocError>
+pub fn part_path(alloc: Global, node: &Pointer, key: &str) -> Result<Pointer, AllocError>
     ensures { Gives result (node.now ++ key.now ∷ []) }
 {
     let mut path = node.clone_in()?;
@@ -27,7 +27,7 @@ pub fn under(alloc: Global, node: &Pointer, key: &str) -> Result<Pointer, AllocE
 }
 
 /// The path of an array's item.
-pub fn under_index(alloc: Global, node: &Pointer, index: usize) -> Result<Pointer, AllocError>
+pub fn item_path(alloc: Global, node: &Pointer, index: usize) -> Result<Pointer, AllocError>
     ensures { Gives result (node.now ++ decimal index ∷ []) }
 {
     let mut path = node.clone_in()?;
@@ -53,8 +53,8 @@ pub fn path_of_place(alloc: Global, way: &[Turn], place: &Place) -> Result<Point
     let node = pointer_of(alloc, way)?;
     match place {
         Place::Whole(_) => Ok(node),
-        Place::Prop(_, name) => under(alloc, &node, name.text()),
-        Place::Item(_, index) => under_index(alloc, &node, *index as usize),
-        Place::Key(_, key) => under(alloc, &node, key.text()),
+        Place::Prop(_, name) => part_path(alloc, &node, name.text()),
+        Place::Item(_, index) => item_path(alloc, &node, *index as usize),
+        Place::Key(_, key) => part_path(alloc, &node, key.text()),
     }
 }

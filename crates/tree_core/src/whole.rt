@@ -12,7 +12,7 @@ use crate::changed::Changed;
 use crate::error::{TreeError, refuse};
 use crate::fixed::other_identifier;
 use crate::making::make_node;
-use crate::paths::under;
+use crate::paths::part_path;
 use crate::place::Change;
 use crate::reconciling::reconcile;
 use crate::typing::model_type;
@@ -52,7 +52,7 @@ fn set_whole(
     ensures { Answers changed result (specs.whole_set (goes_by by.now) kind (view value.now) (labelled node.now)) }
 {
     match other_identifier(by.types, kind, node, value) {
-        Some(name) => Err(refuse(under(alloc, by.node, name.text())?, Rule::Fixed)),
+        Some(name) => Err(refuse(part_path(alloc, by.node, name.text())?, Rule::Fixed)),
         None => make_whole(alloc, by, kind, value, node),
     }
 }

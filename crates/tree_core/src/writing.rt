@@ -13,7 +13,7 @@ use crate::error::{TreeError, refuse};
 use crate::fixed::is_identifier;
 use crate::making::{make_at, make_entry_at};
 use crate::parts::{entries_of, entry_at, items_of, part_type, turn_to};
-use crate::paths::{under, under_index};
+use crate::paths::{item_path, part_path};
 use crate::place::{Change, Place};
 use crate::reconciling::{label_new, reconcile, set_item};
 use crate::whole::write_whole;
@@ -169,7 +169,7 @@ fn set_property(
     requires { IsPlain (view value.now) }
     ensures { Answers changed result (specs.property_set (goes_by by.now) (entry_of entry.now) (labelled old.now) (view value.now)) }
 {
-    let path = under(alloc, by.node, entry.key)?;
+    let path = part_path(alloc, by.node, entry.key)?;
     if is_identifier(by.types, entry.node, entry.key) && !old.equals(value) {
         return Err(refuse(path, Rule::Fixed));
     }
@@ -214,7 +214,7 @@ fn put_key(alloc: Global, by: &Writing, entry: &Entry, value: &Snap) -> Result<C
     requires { IsPlain (view value.now) }
     ensures { Answers changed result (specs.key_put (goes_by by.now) (entry_of entry.now) (view value.now)) }
 {
-    let path = under(alloc, by.node, entry.key)?;
+    let path = part_path(alloc, by.node, entry.key)?;
     let t = part_type(by.types, entry.node, entry.key);
     let made = make_entry_at(alloc, by.types, t, entry.key, value, &path)?;
     match entry_at(entries_of(entry.node), entry.key) {
@@ -314,7 +314,7 @@ fn make_item(alloc: Global, by: &Writing, item: &Item, value: &Snap) -> Result<S
     ensures made { Answers view result (specs.item_making (goes_by by.now) (item_of item.now) (view value.now)) }
     ensures plain { Rattle.std.specs.Prelude.IfOk result (λ s. IsPlain (view s)) }
 {
-    let path = under_index(alloc, by.node, item.index)?;
+    let path = item_path(alloc, by.node, item.index)?;
     let t = part_type(by.types, item.node, "");
     make_at(alloc, by.types, t, value, &path)
 }

@@ -13,7 +13,7 @@ use Rattle.type_table.specs.declared.shape.Shape.TheVariants.{Literal, Optional,
 use Rattle.type_table.specs.Table.{Table, Catalog, shape_at, properties_of}
 use Rattle.type_table.specs.Identifiers.{is_firm}
 use Rattle.type_table.specs.Names.{named_by, shape_by}
-use Rattle.type_table.specs.Unions.{is_same, is_map, is_literal, property_at, literal_in, literal_by, literal_at, model_in, model_before, models_of, tag_of, tagged, chosen_by_field, chosen_by_tag, chosen_for_record, chosen}
+use Rattle.type_table.specs.Unions.{is_same, is_map, is_literal, property_at, literal_in, literal_by, literal_at, model_of_shape, model_before, models_of, tag_of, tagged, chosen_by_field, chosen_by_tag, chosen_for_record, chosen}
 use Rattle.type_core.specs.Judging.{is_null, shape_for, judged_by_choice, judged_step, judged_within, judged_by}
 use Rattle.type_core.specs.Sound.{IsSound}
 use Rattle.type_core.proofs.Chains.{named_by-at}
@@ -49,7 +49,7 @@ abbrev pub IfModel : Shape → (ModelNo → Type 0) → Type 0
 IfModel (Model m) P = P m
 IfModel shape P = Unit {0}
 
-model-found : (shape : Option Shape) (k : ModelNo) → model_in shape ≡ Some k → shape ≡ Some (Model k)
+model-found : (shape : Option Shape) (k : ModelNo) → model_of_shape shape ≡ Some k → shape ≡ Some (Model k)
 model-found (Some (Model m)) k h = let same : m ≡ k = cc in ap (λ (n : ModelNo). Some (Model n)) same
 model-found _ k h = absurd (cc)
 
@@ -61,7 +61,7 @@ record Tagged (table : Table) (tag : List ℕ) (w : Value) (t : TypeNo) : Type 0
 
 tagged-before : (table : Table) (t : TypeNo) (ts : List TypeNo) (tag : List ℕ) (w : Value) (m : TypeNo)
     → (tagged table (models_of table ts) tag w ≡ Some m → Tagged table tag w m)
-    → (found : Option ModelNo) → model_in (shape_by table t.0) ≡ found → tagged table (model_before t found (models_of table ts)) tag w ≡ Some m → Tagged table tag w m
+    → (found : Option ModelNo) → model_of_shape (shape_by table t.0) ≡ found → tagged table (model_before t found (models_of table ts)) tag w ≡ Some m → Tagged table tag w m
 tagged-before table t ts tag w m rest None e h = rest h
 tagged-before table t ts tag w m rest (Some k) e h = by (is_literal w (literal_at table tag k)) refl h where
   by : (b : Bool) → is_literal w (literal_at table tag k) ≡ b → (if b then Some t else tagged table (models_of table ts) tag w) ≡ Some m → Tagged table tag w m
@@ -73,7 +73,7 @@ tagged-before table t ts tag w m rest (Some k) e h = by (is_literal w (literal_a
 
 tagged-found : (table : Table) (ts : List TypeNo) (tag : List ℕ) (w : Value) (m : TypeNo) → tagged table (models_of table ts) tag w ≡ Some m → Tagged table tag w m
 tagged-found table [] tag w m h = absurd (cc)
-tagged-found table (t ∷ ts) tag w m h = tagged-before table t ts tag w m (tagged-found table ts tag w m) (model_in (shape_by table t.0)) refl h
+tagged-found table (t ∷ ts) tag w m h = tagged-before table t ts tag w m (tagged-found table ts tag w m) (model_of_shape (shape_by table t.0)) refl h
 
 -- the literal that a property is
 record Lettered (table : Table) (o : Option Property) (w : Value) : Type 0 where

@@ -10,7 +10,7 @@ use Rattle.type_table.specs.declared.shape.Shape.{Shape}
 use Rattle.type_table.specs.declared.shape.Shape.TheVariants.{Optional, Maybe, MaybeNull, Union, Safe, Named}
 use Rattle.type_table.specs.Table.{Table, shape_at, leads_of}
 use Rattle.type_table.specs.Names.{LeadsTo, at_once, by_way, named_step, named_within, named_by, shape_by}
-use Rattle.type_table.specs.Unions.{is_map, model_in, model_before, models_of, literal_at, is_literal, tag_of, tagged, only_model, chosen_by_field, chosen_by_tag, chosen_for_record, chosen}
+use Rattle.type_table.specs.Unions.{is_map, model_of_shape, model_before, models_of, literal_at, is_literal, tag_of, tagged, only_model, chosen_by_field, chosen_by_tag, chosen_for_record, chosen}
 use Rattle.snap_core.specs.Value.{value_at}
 use Rattle.type_table.specs.Identifiers.{is_safe, is_firm, of_property}
 use Rattle.type_core.specs.Judging.{is_null, shape_for, judged_by_choice, judged_step, judged_within, judged_by}
@@ -39,7 +39,7 @@ Each P (m ∷ ms) = P m.0 × Each P ms
 pub Each-models_of : (table : Table) (P : TypeNo → Type 0) (ts : List TypeNo) → ((t : TypeNo) → Contains ts t → P t) → Each P (models_of table ts)
 Each-models_of table P [] h = tt
 Each-models_of table P (t ∷ ts) h =
-    by_model (model_in (shape_by table t.0)) (h t (Contains-first t ts)) (Each-models_of table P ts (λ u c. h u (Contains-later t ts u c)))
+    by_model (model_of_shape (shape_by table t.0)) (h t (Contains-first t ts)) (Each-models_of table P ts (λ u c. h u (Contains-later t ts u c)))
   where
     by_model : (m : Option ModelNo) → P t → Each P (models_of table ts) → Each P (model_before t m (models_of table ts))
     by_model None one rest = rest

@@ -11,7 +11,7 @@ use Rattle.type_table.specs.declared.shape.Shape.TheVariants.{Model, Named}
 use Rattle.type_table.specs.declared.shape.Property.{Property}
 use Rattle.type_table.specs.Table.{Table, AreNamed, shape_at, properties_of}
 use Rattle.type_table.specs.Names.{named_step, named_within, named_by, shape_by}
-use Rattle.type_table.specs.Unions.{is_same, is_literal, property_at, literal_by, literal_at, model_in, model_before, models_of, tag_of, tagged, is_map, chosen_by_field, chosen_by_tag, chosen_for_record, chosen}
+use Rattle.type_table.specs.Unions.{is_same, is_literal, property_at, literal_by, literal_at, model_of_shape, model_before, models_of, tag_of, tagged, is_map, chosen_by_field, chosen_by_tag, chosen_for_record, chosen}
 use Rattle.snap_core.specs.Value.{value_at}
 use Rattle.type_core.specs.Makes.{Makes, IsMaybe, maybe, maybe_null, string, whole, truth, nothing, literal, enumeration, identifier, identifier_number, reference, safe, safe_of_null, safe_absent, frozen, frozen_absent, optional, optional_absent, maybe_of_null, maybe_absent, maybe_other, union, refinement, array, array_absent, map, map_absent, model, name, MakesEach, no_more, one_more}
 
@@ -186,7 +186,7 @@ property-found : (table : Table) (o : Option Property) (l : Value) → literal_b
 property-found table None l h = cc
 property-found table (Some p) l h = (p, refl)
 
-model-found : (shape : Option Shape) (k : ModelNo) → model_in shape ≡ Some k → shape ≡ Some (Model k)
+model-found : (shape : Option Shape) (k : ModelNo) → model_of_shape shape ≡ Some k → shape ≡ Some (Model k)
 model-found (Some (Model m)) k h = let same : m ≡ k = cc h in ap (λ n. Some (Model n)) same
 model-found _ k h = cc
 
@@ -196,7 +196,7 @@ IsTagged table tag w m = (k : ModelNo) × (shape_by table m.0 ≡ Some (Model k)
 
 tagged-next : (table : Table) (t : TypeNo) (ts : List TypeNo) (tag : List ℕ) (w : Value) (m : TypeNo)
     → (tagged table (models_of table ts) tag w ≡ Some m → IsTagged table tag w m)
-    → (found : Option ModelNo) → model_in (shape_by table t.0) ≡ found → tagged table (model_before t found (models_of table ts)) tag w ≡ Some m → IsTagged table tag w m
+    → (found : Option ModelNo) → model_of_shape (shape_by table t.0) ≡ found → tagged table (model_before t found (models_of table ts)) tag w ≡ Some m → IsTagged table tag w m
 tagged-next table t ts tag w m rest None e h = rest h
 tagged-next table t ts tag w m rest (Some k) e h = by_test (is_literal w (literal_at table tag k)) refl h
   where
@@ -209,7 +209,7 @@ tagged-next table t ts tag w m rest (Some k) e h = by_test (is_literal w (litera
 
 tagged-found : (table : Table) (ts : List TypeNo) (tag : List ℕ) (w : Value) (m : TypeNo) → tagged table (models_of table ts) tag w ≡ Some m → IsTagged table tag w m
 tagged-found table [] tag w m h = cc
-tagged-found table (t ∷ ts) tag w m h = tagged-next table t ts tag w m (tagged-found table ts tag w m) (model_in (shape_by table t.0)) refl h
+tagged-found table (t ∷ ts) tag w m h = tagged-next table t ts tag w m (tagged-found table ts tag w m) (model_of_shape (shape_by table t.0)) refl h
 
 -- what the model makes that a tag tells has the same value under the tag
 kept-under : (table : Table) (ts : List TypeNo) (tag : List ℕ) (given : Fields) (w : Value) (m : TypeNo) (s : Value)

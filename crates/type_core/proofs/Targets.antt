@@ -9,7 +9,7 @@ use Rattle.type_table.specs.declared.shape.Shape.TheVariants.{Model, Reference, 
 use Rattle.type_table.specs.declared.shape.Property.{Property}
 use Rattle.type_table.specs.Table.{Catalog, shape_at, plan_of, IsShapeOf}
 use Rattle.type_table.specs.Identifiers.{identifier_of, identifier_in, is_reference}
-use Rattle.type_table.specs.Unions.{model_in}
+use Rattle.type_table.specs.Unions.{model_of_shape}
 use Rattle.type_table.specs.Targets.{target_of}
 use Rattle.type_core.specs.Sound.{IsSound}
 use Rattle.type_core.proofs.Sound.{IsShapeOf-shape}
@@ -28,10 +28,10 @@ module _ (types : Catalog) (sound : IsSound types) where
       of.model
 
   -- the type that it leads to, where that has an identifier
-  led-to : (u : TypeNo) → is_none (identifier_in types.table (shape_at types.table u.0)) ≡ false → IsGood types (model_in (shape_at types.table u.0))
+  led-to : (u : TypeNo) → is_none (identifier_in types.table (shape_at types.table u.0)) ≡ false → IsGood types (model_of_shape (shape_at types.table u.0))
   led-to u some = by_shape (shape_at types.table u.0) refl some
     where
-      by_shape : (o : Option Shape) → shape_at types.table u.0 ≡ o → is_none (identifier_in types.table o) ≡ false → IsGood types (model_in o)
+      by_shape : (o : Option Shape) → shape_at types.table u.0 ≡ o → is_none (identifier_in types.table o) ≡ false → IsGood types (model_of_shape o)
       by_shape (Some (Model m)) e h = (m, refl, model-known u.0 m e, by_property (identifier_of types.table m.0) h)
         where
           by_property : (p : Option Property) → is_none p ≡ false → IsSome p

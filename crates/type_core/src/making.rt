@@ -35,7 +35,7 @@ pub enum MakeError {
     Memory,
     /// The first rule that isn't met, in document order, and the place where, from the given value's
     /// root; `large` after all others, at the root.
-    #[error("the type doesn't take the value")]
+    #[error("not made: {0}")]
     Refused(Refusal),
 }
 

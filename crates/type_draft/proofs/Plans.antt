@@ -9,7 +9,7 @@ use Rattle.type_table.specs.declared.shape.Shape.{Shape}
 use Rattle.type_table.specs.declared.shape.Shape.TheVariants.{Model}
 use Rattle.type_table.specs.declared.shape.Property.{Property}
 use Rattle.type_table.specs.declared.shape.ModelType.{ModelType}
-use Rattle.type_table.specs.Table.{Table, Plan, HoldsPlain, NamesModel, NamesTypes, AreNamed, AreTyped, IsModelOf, IsShapeOf, IsBegun, plan_of, leads_of, parts_of}
+use Rattle.type_table.specs.Table.{Table, Plan, HoldsPlain, NamesModel, NamesTypes, AreNamed, AreTyped, IsModelOf, IsShapeOf, IsBegun, plan_of, leads_of, types_below}
 use Rattle.type_core.proofs.Following.{slice_get-last}
 use Rattle.type_draft.specs.Reaching.{AreKnown}
 
@@ -46,7 +46,7 @@ NamesModel-more models more _ long h = tt
 NamesTypes-more : (count more : ℕ) (shape : Shape) → count ≤ more → NamesTypes count shape → NamesTypes more shape
 NamesTypes-more count more shape long h = record {
   leads = All-weaker (λ (t : TypeNo). t.0 < count) (λ (t : TypeNo). t.0 < more) (λ t q. omega arith) (leads_of shape) h.leads;
-  parts = All-weaker (λ (t : TypeNo). t.0 < count) (λ (t : TypeNo). t.0 < more) (λ t q. omega arith) (parts_of shape) h.parts;
+  parts = All-weaker (λ (t : TypeNo). t.0 < count) (λ (t : TypeNo). t.0 < more) (λ t q. omega arith) (types_below shape) h.parts;
 }
 
 -- a shape stays one of the plan as the plan grows

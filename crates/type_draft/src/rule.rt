@@ -11,8 +11,8 @@ use std::alloc::AllocError;
 pub enum DraftError {
     #[error("out of memory")]
     Memory,
-    /// The first fault, at this type: by `Name`, `Union` or `Default`.
-    #[error("a type at fault")]
+    /// The first fault, at this type.
+    #[error("a type at fault by the rule `{rule}`")]
     Wrong { t: TypeNo, rule: SchemaRule },
 }
 

@@ -6,7 +6,7 @@ use Rattle.snap_core.specs.declared.number.TypeNo.{TypeNo}
 use Rattle.snap_core.specs.declared.number.ModelNo.{ModelNo}
 use Rattle.type_table.specs.Table.{Table, properties_of, names_of}
 use Rattle.type_table.specs.Names.{shape_by}
-use Rattle.type_table.specs.Unions.{model_in, model_before, models_of, literal_at, is_literal, tagged, only_model, tells_apart, tag_of}
+use Rattle.type_table.specs.Unions.{model_of_shape, model_before, models_of, literal_at, is_literal, tagged, only_model, tells_apart, tag_of}
 
 -- a test of what is made of each item
 pub list_any-map : {X Y : Type 0} (test : Y → Bool) (f : X → Y) (xs : List X) → list_any test (map f xs) ≡ list_any (λ x. test (f x)) xs
@@ -20,14 +20,14 @@ is_tagged table tag v t = is_some (tagged table (models_of table (t ∷ [])) tag
 -- the first such model is this member, or among those after it
 pub tagged-next : (table : Table) (t : TypeNo) (ts : List TypeNo) (tag : List ℕ) (v : Value) (b : Bool) → is_tagged table tag v t ≡ b
     → tagged table (models_of table (t ∷ ts)) tag v ≡ (if b then Some t else tagged table (models_of table ts) tag v)
-tagged-next table t ts tag v b = by_model (model_in (shape_by table t.0)) refl
+tagged-next table t ts tag v b = by_model (model_of_shape (shape_by table t.0)) refl
   where
     by_test : (x : Bool) → is_some (if x then Some t else None) ≡ b
         → (if x then Some t else tagged table (models_of table ts) tag v) ≡ (if b then Some t else tagged table (models_of table ts) tag v)
     by_test true e = rw (← e)
     by_test false e = rw (← e)
 
-    by_model : (found : Option ModelNo) → model_in (shape_by table t.0) ≡ found → is_tagged table tag v t ≡ b
+    by_model : (found : Option ModelNo) → model_of_shape (shape_by table t.0) ≡ found → is_tagged table tag v t ≡ b
         → tagged table (models_of table (t ∷ ts)) tag v ≡ (if b then Some t else tagged table (models_of table ts) tag v)
     by_model None e = rw e (λ h. rw (← h))
     by_model (Some m) e = rw e (by_test (is_literal v (literal_at table tag m)))

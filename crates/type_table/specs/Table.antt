@@ -60,12 +60,12 @@ leads_of (Union ms) = ms
 leads_of _ = []
 
 -- the type of a list's items, of a record's values, or that a reference leads to
-abbrev pub parts_of : Shape → List TypeNo
-parts_of (Array u) = u ∷ []
-parts_of (Map u) = u ∷ []
-parts_of (Reference u) = u ∷ []
-parts_of (Safe u) = u ∷ []
-parts_of _ = []
+abbrev pub types_below : Shape → List TypeNo
+types_below (Array u) = u ∷ []
+types_below (Map u) = u ∷ []
+types_below (Reference u) = u ∷ []
+types_below (Safe u) = u ∷ []
+types_below _ = []
 
 -- the model that a shape names is one of these
 abbrev pub NamesModel : List ModelType → Shape → Type 0
@@ -75,7 +75,7 @@ NamesModel models _ = Unit {0}
 -- the numbers of the types that a shape names are below a bound
 pub record NamesTypes (count : ℕ) (shape : Shape) : Type 0 where
   pub leads : All (λ (t : TypeNo). t.0 < count) (leads_of shape)
-  pub parts : All (λ (t : TypeNo). t.0 < count) (parts_of shape)
+  pub parts : All (λ (t : TypeNo). t.0 < count) (types_below shape)
 
 -- literals and defaults are plain
 abbrev pub HoldsPlain : Shape → Type 0

@@ -63,9 +63,9 @@ abbrev pub is_map : Option Shape → Bool
 is_map (Some (Map u)) = true
 is_map _ = false
 
-abbrev pub model_in : Option Shape → Option ModelNo
-model_in (Some (Model m)) = Some m
-model_in _ = None
+abbrev pub model_of_shape : Option Shape → Option ModelNo
+model_of_shape (Some (Model m)) = Some m
+model_of_shape _ = None
 
 -- the property of a name
 abbrev pub property_at : List ℕ → List Property → Option Property
@@ -92,7 +92,7 @@ model_before t None rest = rest
 -- the models among the members, each beside its member
 abbrev pub models_of : Table → List TypeNo → List (TypeNo × ModelNo)
 models_of table [] = []
-models_of table (t ∷ ts) = model_before t (model_in (shape_by table t.0)) (models_of table ts)
+models_of table (t ∷ ts) = model_before t (model_of_shape (shape_by table t.0)) (models_of table ts)
 
 -- whether a literal, if there is one, is the value
 abbrev pub is_literal : Value → Option Value → Bool

@@ -8,7 +8,7 @@ ghost use Rattle.type_table.specs.Table.{Table as Types, shape_at};
 ghost use Rattle.type_table.specs.IdentifierPlaces as places;
 ghost use Rattle.type_table.specs.Identifiers as specs;
 ghost use Rattle.type_table.specs.Targets as targets;
-ghost use Rattle.type_table.specs.Unions.{model_in};
+ghost use Rattle.type_table.specs.Unions.{model_of_shape};
 
 use crate::shape::{ModelType, Property, Shape};
 use crate::table::Table;
@@ -71,7 +71,7 @@ pub fn identifier_at(table: &Table, u: TypeNo) -> Option<&Property>
 
 /// The model that a type is directly.
 fn model_at(table: &Table, u: TypeNo) -> Option<ModelNo>
-    ensures { result ≡ model_in (shape_at table.now u.0) }
+    ensures { result ≡ model_of_shape (shape_at table.now u.0) }
 {
     match table.shape(u) {
         Some(Shape::Model(m)) => Some(*m),

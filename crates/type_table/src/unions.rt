@@ -163,7 +163,7 @@ fn only_model(table: &Table, members: &[TypeNo]) -> Option<TypeNo>
 
 /// The model that a type is, names followed.
 pub fn model_of(table: &Table, t: TypeNo) -> Option<ModelNo>
-    ensures { result ≡ unions.model_in (shape_by table.now t.0) }
+    ensures { result ≡ unions.model_of_shape (shape_by table.now t.0) }
 {
     match table.named_shape(t) {
         Some(Shape::Model(m)) => Some(*m),

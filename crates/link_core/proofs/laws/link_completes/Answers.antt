@@ -4,7 +4,7 @@ use Rattle.link_core.proofs.laws.link_completes.Goals as goal
 
 pub returns : goal.returns
 returns g c =
-    lemmas.link_completes g.A.Answers.replies
+    lemmas.link_completes g.A.Handler.replies
     (record {
       whole_is_only = c.whole_is_only.ensures;
       whole_stays = c.whole_stays.ensures;

@@ -10,7 +10,7 @@ invariant-loop-request g l =
     record {
       some : 0 < l.left;
       most : l.left ≤ 1000000;
-      serving : IsServing g.A.Answers.replies (record {
+      serving : IsServing g.A.Handler.replies (record {
         before = l.fn.answers;
         after = l.answers;
         links = record { before = (state l.fn.door).links; after = (state l.door).links };

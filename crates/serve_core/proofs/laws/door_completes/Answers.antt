@@ -3,4 +3,4 @@ use Rattle.serve_core.proofs.Finishing.{door_completes}
 use Rattle.serve_core.proofs.laws.door_completes.Goals as goal
 
 pub returns : goal.returns
-returns g c = door_completes g.A.Answers.replies c.link_completes.ensures
+returns g c = door_completes g.A.Handler.replies c.link_completes.ensures

@@ -19,7 +19,7 @@ pub returns-in-Some-clause-serves : goal.returns-in-Some-clause-serves
 returns-in-Some-clause-serves g c =
     let state = g.D.Door.state in
     c.loop-left.invariant.goes_on _ c.in-Some.end
-    (ends_next g.A.Answers.replies (c.loop-left.left - 1) c.loop-left.left _ c.in-Some.end (omega (arith, c.loop-left-test.true)) c.in-Some.ensures.next)
+    (ends_next g.A.Handler.replies (c.loop-left.left - 1) c.loop-left.left _ c.in-Some.end (omega (arith, c.loop-left-test.true)) c.in-Some.ensures.next)
 
 pub loop-left-preserved : goal.loop-left-preserved
 loop-left-preserved g c = record {
@@ -27,5 +27,5 @@ loop-left-preserved g c = record {
   none_open = c.in_default.ensures.none_open;
   goes_on = λ after end rest.
       c.loop-left.invariant.goes_on after end
-      (goes_next g.A.Answers.replies (c.loop-left.left - 1) c.loop-left.left _ _ end (omega (arith, c.loop-left-test.true)) c.in_default.ensures.next rest);
+      (goes_next g.A.Handler.replies (c.loop-left.left - 1) c.loop-left.left _ _ end (omega (arith, c.loop-left-test.true)) c.in_default.ensures.next rest);
 }

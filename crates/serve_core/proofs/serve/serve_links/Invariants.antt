@@ -7,7 +7,7 @@ use Rattle.serve_core.proofs.serve.serve_links.Given as goal
 abbrev pub invariant-loop-left : goal.invariant-loop-left
 invariant-loop-left g l =
     let state = g.D.Door.state in
-    let replies = g.A.Answers.replies in
+    let replies = g.A.Handler.replies in
     record {
       attached : IsTrue (state l.door).is_attached;
       none_open : (state l.door).is_open ≡ false;

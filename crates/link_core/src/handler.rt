@@ -7,7 +7,7 @@ use snap_core::Bytes;
 use std::alloc::AllocError;
 
 /// What answers requests, with a state that goes from one request to the next.
-pub trait Answers {
+pub trait Handler {
     /// What a request may get in a state: a reply, and the state after it.
     ghost replies: { Self → Request → Reply → Self → Type 0 };
 
