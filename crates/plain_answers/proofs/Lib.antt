@@ -1,0 +1,9 @@
+pub mod Examples
+pub mod Giving
+pub mod Untested
+pub mod Operators
+pub mod Readings
+pub mod Walks
+pub mod Makings
+pub mod Evaluations
+pub mod Sights
