@@ -1,0 +1,4 @@
+pub mod Naming
+pub mod Listed
+pub mod Keyed
+pub mod InOrder

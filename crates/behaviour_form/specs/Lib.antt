@@ -1,0 +1,5 @@
+pub mod Fields
+pub mod Named
+pub mod Views
+pub mod Middleware
+pub mod Actions

@@ -1,0 +1,10 @@
+pub mod Telling
+pub mod Parts
+pub mod Walking
+pub mod Looking
+pub mod Numbering
+pub mod Joining
+pub mod Operands
+pub mod Rooms
+pub mod Stmts
+pub mod Among

@@ -1,0 +1,12 @@
+pub mod Results
+pub mod Outcome
+pub mod Keys
+pub mod StmtKeys
+pub mod Texts
+pub mod Scope
+pub mod Names
+pub mod Models
+pub mod Numbers
+pub mod Expressions
+pub mod Statements
+pub mod Seen
