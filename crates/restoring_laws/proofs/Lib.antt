@@ -1,0 +1,12 @@
+pub mod Levels
+pub mod Along
+pub mod NewParts
+pub mod Told
+pub mod ItemsMade
+pub mod EntriesMade
+pub mod Found
+pub mod PutBack
+pub mod InTurn
+pub mod Undone
+pub mod Nodes
+pub mod Examples

@@ -1,0 +1,36 @@
+ghost use Rattle.restoring_laws.specs.Laws.{PuttingBackApplies, CountedArePutBack, EachIsApplied, CountedAreApplied, CallsAreUndone, CallsAreRedone, DeadNodesStayDead};
+
+/// Patches that fit in turn, at places in nodes, and are put back lead where applying them leads, and are logged as they are.
+pub fn putting_back_applies()
+    ensures { PuttingBackApplies }
+{}
+
+/// So do patches that fit in turn where the log grew by as many.
+pub fn counted_are_put_back()
+    ensures { CountedArePutBack }
+{}
+
+/// A patch that changes a tree when it is put back makes of its snapshot what applying it makes.
+pub fn each_is_applied()
+    ensures { EachIsApplied }
+{}
+
+/// So does each of many in its turn where the log grew by as many.
+pub fn counted_are_applied()
+    ensures { CountedAreApplied }
+{}
+
+/// The inverses of what a call logged, last first, undo it.
+pub fn calls_are_undone()
+    ensures { CallsAreUndone }
+{}
+
+/// What a call logged does it again.
+pub fn calls_are_redone()
+    ensures { CallsAreRedone }
+{}
+
+/// What comes in has new nodes: no node that is dead comes back, whatever patches are put back.
+pub fn dead_nodes_stay_dead()
+    ensures { DeadNodesStayDead }
+{}
