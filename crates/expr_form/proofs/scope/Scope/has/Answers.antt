@@ -19,7 +19,7 @@ returns-then-eq c =
     let item = c.index-names-left.result in
     let same : bytes_eq name item ≡ true = ap (bytes_eq name) (sym c.text.ensures) ∙ sym c.eq.ensures ∙ c.if-eq.true in
     let held : is_among names name ≡ true =
-        list_any_at (bytes_eq name) names (c.loop-left.left - 1) item (omega (arith, c.loop-left.invariant.0, c.loop-left-test.true)) (ap (bytes_eq name) (sym c.index-names-left.is) ∙ same) in
+    list_any_at (bytes_eq name) names (c.loop-left.left - 1) item (omega (arith, c.loop-left.invariant.0, c.loop-left-test.true)) (ap (bytes_eq name) (sym c.index-names-left.is) ∙ same) in
     sym (ap (λ ns. is_among ns name) (sym (c.as_slice-names.ensures ∙ c.self.view_is)) ∙ held)
 
 pub loop-left-preserved : goal.loop-left-preserved
@@ -29,9 +29,10 @@ loop-left-preserved c =
     let left = c.loop-left.left in
     let other : bytes_eq name c.index-names-left.result ≡ false = ap (bytes_eq name) (sym c.text.ensures) ∙ sym c.eq.ensures ∙ c.if-eq.false in
     let one_on : left ≡ (left - 1) + 1 = omega (arith, c.loop-left-test.true) in
-    let P : ℕ → Type 0 = λ n. is_among (drop n names) name ≡ false in
-    (omega (arith, c.loop-left.invariant.0),
-    among-back name names (left - 1) c.index-names-left.result (omega (arith, c.loop-left.invariant.0, c.loop-left-test.true)) c.index-names-left.is other (subst P one_on c.loop-left.invariant.1))
+    let P : ℕ → Type 0 = λ n. is_among (drop n names) name ≡ false in (
+      omega (arith, c.loop-left.invariant.0),
+      among-back name names (left - 1) c.index-names-left.result (omega (arith, c.loop-left.invariant.0, c.loop-left-test.true)) c.index-names-left.is other (subst P one_on c.loop-left.invariant.1),
+    )
 
 pub returns : goal.returns
 returns c =
