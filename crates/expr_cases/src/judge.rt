@@ -1,7 +1,7 @@
 //! What the texts of a table come to.
 ghost use Rattle.std.specs.Prelude.{◌≡◌, length};
-ghost use Rattle.snap_core.specs.Value.{AreKeyed};
-ghost use Rattle.snap_core.specs.View.{fields_view};
+ghost use Rattle.snap_core.specs.Value.{IsOrdered, AreOrderedMembers};
+ghost use Rattle.snap_core.specs.View.{view, fields_view};
 
 use expr_form::{Scope, Target, Trouble, read_body, read_expression};
 use pointer_core::Pointer;
@@ -26,26 +26,49 @@ const TARGETS: [Target; 3] = [
 
 /// What a text comes to.
 pub fn outcome(alloc: Global, judge: Judge, text: &str) -> Result<String, AllocError> {
-    let Some(Snap::Dict(types)) = read_loosely(alloc, TYPES.as_bytes())? else {
+    let Some(types) = read_loosely(alloc, TYPES.as_bytes())? else {
         return String::from_str(alloc, "no types");
     };
     let Some(value) = read_loosely(alloc, text.as_bytes())? else {
         return String::from_str(alloc, "syntax");
     };
-    if types.len() != TARGETS.len() {
-        return String::from_str(alloc, "other types");
-    }
-    judged(alloc, judge, &value, types.as_slice(), &TARGETS)
+    judged(alloc, judge, &value, &types)
 }
 
-fn judged(
+/// What a value comes to, by types that are a record.
+fn judged(alloc: Global, judge: Judge, value: &Snap, types: &Snap) -> Result<String, AllocError>
+    requires { IsOrdered (view types.now) }
+{
+    match types {
+        Snap::Dict(types) => judged_among(alloc, judge, value, types.as_slice()),
+        _ => String::from_str(alloc, "other types"),
+    }
+}
+
+fn judged_among(
+    alloc: Global,
+    judge: Judge,
+    value: &Snap,
+    types: &[Field],
+) -> Result<String, AllocError>
+    requires { AreOrderedMembers (fields_view types.now) }
+{
+    if types.len() == TARGETS.len() {
+        judged_by(alloc, judge, value, types, &TARGETS)
+    } else {
+        String::from_str(alloc, "other types")
+    }
+}
+
+#[tactic(auto, using(crate::proofs::Orders::keyed_by_order))]
+fn judged_by(
     alloc: Global,
     judge: Judge,
     value: &Snap,
     types: &[Field],
     targets: &[Target],
 ) -> Result<String, AllocError>
-    requires keyed { AreKeyed (fields_view types.now) }
+    requires ordered { AreOrderedMembers (fields_view types.now) }
     requires each { length targets.now ≡ length types.now }
 {
     let mut scope = Scope::new(alloc)?;
