@@ -22,6 +22,7 @@ fn main(rt: HostRuntime) -> io::Result<()> {
     table::run(&rt, &mut tally, "indices.txt", Judge::Index)?;
     table::run(&rt, &mut tally, "schemas.txt", Judge::Schema)?;
     table::run(&rt, &mut tally, "links.txt", Judge::Schema)?;
+    table::run(&rt, &mut tally, "behaviours.txt", Judge::Schema)?;
     table::run(&rt, &mut tally, "held.txt", Judge::Held)?;
     making::run(&rt, &mut tally, "making.txt")?;
     making::run(&rt, &mut tally, "examples.txt")?;

@@ -23,10 +23,11 @@ use Rattle.schema_form.specs.declared.form.SchemaForm.{SchemaForm}
 use Rattle.schema_form.specs.declared.entries.Gathered.{Gathered}
 use Rattle.schema_form.specs.declared.file.Found.{Found}
 use Rattle.schema_form.specs.Names.{has_key}
-use Rattle.schema_form.specs.Faults.{here, unless, member_faults, part_faults, file_faults, entries, entries_in, types_of}
-use Rattle.schema_form.specs.declared.fault.Fault.{Fault}
+use Rattle.schema_form.specs.Faults.{here, unless, member_faults, part_faults, file_faults}
+use Rattle.schema_form.specs.Entries.{entries_in, types_of}
+use Rattle.expr_form.specs.declared.fault.Fault.{Fault}
 use Rattle.schema_form.specs.Outcome.{Finds}
-use Rattle.schema_form.specs.Layout.{gathered}
+use Rattle.schema_form.specs.Gathering.{gathered, gathered_shown}
 use Rattle.schema_form.specs.Form.{history_in, root_in, IsForm}
 use Rattle.schema_form.specs.Parts.{IsNamed, IsTyped, IsNext, IsFound, IsMadeOf}
 use Rattle.schema_form.proofs.Texts.{bytes_eq-turned}
@@ -42,7 +43,7 @@ absent-below key (member k v ms) before keyed =
     let other : bytes_eq key k ≡ false = sym (is_eq-slice_cmp key k) ∙ ap is_eq before in
     ap (λ (b : Bool). if b then Some v else value_at key ms) other ∙ absent-below key ms (comes-through key k (keys_of ms) before keyed.0) keyed.1
 
-keyed-once : (key k : List ℕ) (v : Value) (ms : Fields) → bytes_eq key k ≡ true → AreKeyed (member k v ms) → value_at key ms ≡ None
+pub keyed-once : (key k : List ℕ) (v : Value) (ms : Fields) → bytes_eq key k ≡ true → AreKeyed (member k v ms) → value_at key ms ≡ None
 keyed-once key k v ms same keyed =
     let one : k ≡ key = sym ((bytes_eq-Decides key k).0 same) in
     let P : List ℕ → Type 0 = λ j. ComesBefore j (keys_of ms) in
@@ -101,7 +102,7 @@ found-step types all rest k v old new keyed next found = record {
   typed = seen-step (codes "types") k v all rest (Unit {0}) ((w : Value) → value_at (codes "types") all ≡ Some w → IsTyped w old)
       (Unit {0}) ((w : Value) → value_at (codes "types") all ≡ Some w → IsTyped w new) keyed found.typed
       (λ e. let kept : new.types ≡ old.types = at (bytes_eq k (codes "types")) false (IsTyped v new) (new.types ≡ old.types) e next.typed in
-      ((λ h. tt), (λ h w is. kept ∙ h w is)))
+      ((λ h. tt), (λ h w is. let typed = h w is in (typed.0, typed.1, kept ∙ typed.2))))
       (λ e h w is. let P : Value → Type 0 = λ x. IsTyped x new in
       subst P (same_value v w (value_at (codes "types") all) h is) (at (bytes_eq k (codes "types")) true (IsTyped v new) (new.types ≡ old.types) e next.typed));
 }
@@ -146,7 +147,7 @@ found-end types fs i found past before =
     let P : List Field → Type 0 = λ gs. IsFoundBefore types (fields_view fs) (fields_view gs) found in
     found-all types (fields_view fs) found (subst P (drop_all i fs past) before)
 
-some-of : {A : Type 0} (o : Option A) → is_some o ≡ true → (a : A) × (o ≡ Some a)
+pub some-of : {A : Type 0} (o : Option A) → is_some o ≡ true → (a : A) × (o ≡ Some a)
 some-of (Some a) h = (a, refl)
 some-of None h = absurd cc
 
@@ -173,13 +174,13 @@ module _ (ms : Fields) (found : Found) (is : IsFound (types_of (dict tt ms)) ms 
       let named = is.root root.0 root.1 in
       let types = has-types ms all in
       let typed = is.typed types.0 types.1 in
-      let g : Gathered = record { entries = form.entries; expressions = form.expressions; models = form.models } in
-      let same_types : Ok g ≡ Ok (gathered (entries types.0)) = sym made.types ∙ typed in
+      let g : Gathered = record { entries = form.entries; expressions = form.expressions; models = form.models; behaviours = form.behaviours; astray = form.astray } in
+      let same_types : Ok typed.0 ≡ Ok g = sym typed.2 ∙ made.types in
       let same_root : Ok form.root ≡ Ok named.0 = sym made.root ∙ named.2 in
-      let g_is : gathered (entries types.0) ≡ g = cc same_types in
+      let g_is : typed.0 ≡ g = cc same_types in
       let root_is : named.0 ≡ form.root = cc same_root in
       let one : EntryNo → Option EntryNo = λ e. Some e in record {
-        types = ap (λ o. gathered (entries_in o)) types.1 ∙ g_is;
+        types = ap (λ o. gathered (entries_in o)) types.1 ∙ sym typed.1 ∙ ap gathered_shown g_is;
         root = ap (root_in (dict tt ms)) root.1 ∙ named.1 ∙ ap one root_is;
         history = is.history ∙ ap pos (sym made.history);
       }
@@ -192,7 +193,8 @@ module _ (ms : Fields) (found : Found) (is : IsFound (types_of (dict tt ms)) ms 
       let no : Ok named.0 ≡ Err e = sym named.2 ∙ h in cc
   none-missing e (inr h) =
       let types = has-types ms all in
-      let no : Ok (gathered (entries types.0)) ≡ Err e = sym (is.typed types.0 types.1) ∙ h in cc
+      let typed = is.typed types.0 types.1 in
+      let no : Ok typed.0 ≡ Err e = sym typed.2 ∙ h in cc
 
   -- what is made of all parts has found what the parts have
   pub made-finds : (r : Result SchemaForm FormError) (faults : List Fault) → faults ≡ [] → IfErr r (λ e. (found.root ≡ Err e) ⊎ (found.types ≡ Err e)) → Finds r faults

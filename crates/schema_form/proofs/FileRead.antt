@@ -7,10 +7,9 @@ use Rattle.schema_form.specs.declared.form.SchemaForm.{SchemaForm}
 use Rattle.schema_form.specs.declared.form.EntryNo.{EntryNo}
 use Rattle.schema_form.specs.declared.form.Entry.{Entry}
 use Rattle.schema_form.specs.declared.form.Expression.{Expression}
-use Rattle.schema_form.specs.declared.entries.Gathered.{Gathered}
 use Rattle.schema_form.specs.Names.{entry_from, entry_of}
-use Rattle.schema_form.specs.Faults.{entries, entries_in, types_of}
-use Rattle.schema_form.specs.Layout.{nothing}
+use Rattle.schema_form.specs.Entries.{entries, entries_in, types_of}
+use Rattle.schema_form.specs.Gathering.{Gathering, form_shown, nothing}
 use Rattle.schema_form.specs.Form.{root_in}
 use Rattle.schema_form.specs.Pointers.{entry_path}
 use Rattle.schema_form.specs.Reading.{entry_names, name_at}
@@ -46,7 +45,7 @@ name-from name n (member k v fields) e is =
 
 -- the entries have the names of the types, so a name leads to the entry of that name
 names-are : (file : Value) (form : SchemaForm) → HasForm file form → entry_names form ≡ keys_of (types_of file)
-names-are file form has = sym (ap (λ (g : Gathered). map (λ (e : Entry). e.name) g.entries) has.fits.types) ∙ names-gathered (types_of file) nothing (types_of file)
+names-are file form has = sym (ap (λ (g : Gathering). map (λ (e : Entry). e.name) g.entries) has.fits.types) ∙ names-gathered (types_of file) nothing (types_of file)
 
 known : (file : Value) (form : SchemaForm) → HasForm file form → (s : List ℕ) (e : EntryNo) → entry_of (types_of file) s ≡ Some e → name_at form e ≡ Some s
 known file form has s e is =
@@ -73,7 +72,7 @@ start (text s) key v is = absurd cc
 start (list a ps) key v is = absurd cc
 
 all-read : (file : Value) (form : SchemaForm) (has : HasForm file form)
-    → IsReadSoFar form file (types_of file) (known file form has) (start file) (record { entries = form.entries; expressions = form.expressions; models = form.models })
+    → IsReadSoFar form file (types_of file) (known file form has) (start file) (form_shown form)
 all-read file form has =
     let sound = file-types file has.ordered has.faultless in
     gathered-read form file (types_of file) (known file form has) (start file) has.fits.types sound.1 sound.0

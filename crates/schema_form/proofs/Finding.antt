@@ -7,7 +7,7 @@ use Rattle.snap_core.specs.declared.snap.Snap.{Snap}
 use Rattle.snap_core.specs.declared.snap.Field.{Field}
 use Rattle.snap_core.specs.View.{view, items_view, fields_view}
 use Rattle.snap_core.proofs.Views.{entry-fields}
-use Rattle.schema_form.specs.declared.fault.Fault.{Fault}
+use Rattle.expr_form.specs.declared.fault.Fault.{Fault}
 use Rattle.schema_form.specs.declared.fault.FormError.{FormError}
 use Rattle.schema_form.specs.declared.fault.FormError.TheVariants.{Memory, Wrong}
 use Rattle.pointer_core.specs.declared.schema_rule.SchemaRule.{SchemaRule}

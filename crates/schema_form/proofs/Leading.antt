@@ -32,6 +32,15 @@ PathLeads-first a v items =
     let P : List ℕ → Type 0 = λ token. PathLeads (list a (part v items)) (token ∷ []) v in
     subst P decimal-zero (PathLeads-item a 0 (part v items) v refl)
 
+-- and the second
+decimal-one : decimal 1 ≡ codes "1"
+decimal-one = decimal-digits_value digits (codes "1") refl (omega arith) (λ e. refl) (omega arith)
+
+pub PathLeads-second : (a : Unit {0}) (u v : Value) (items : Items) → PathLeads (list a (part u (part v items))) (codes "1" ∷ []) v
+PathLeads-second a u v items =
+    let P : List ℕ → Type 0 = λ token. PathLeads (list a (part u (part v items))) (token ∷ []) v in
+    subst P decimal-one (PathLeads-item a 1 (part u (part v items)) v refl)
+
 pub PathLeads-keyed : (key : List ℕ) (v : Value) → PathLeads (keyed key v) (key ∷ []) v
 PathLeads-keyed key v =
     PathLeads-field tt key (member key v no_members) v (ap (λ (b : Bool). if b then Some v else None) ((bytes_eq-Decides key key).1 refl))

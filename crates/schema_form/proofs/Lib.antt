@@ -10,11 +10,16 @@ pub mod Whole
 pub mod Pointing
 pub mod Orders
 pub mod Modelling
+pub mod Ahead
+pub mod Saying
+pub mod Growing
+pub mod ModelSound
 pub mod Gathering
 pub mod FileParts
 pub mod Wholeness
 pub mod Leading
 pub mod Spelled
 pub mod ReadTypes
+pub mod ReadModels
 pub mod ReadEntries
 pub mod FileRead

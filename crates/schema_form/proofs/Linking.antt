@@ -12,10 +12,11 @@ use Rattle.schema_form.specs.declared.form.Plain.{Plain}
 use Rattle.schema_form.specs.declared.form.Word.{Word}
 use Rattle.schema_form.specs.declared.form.Word.TheVariants as word
 use Rattle.schema_form.specs.declared.bases.Base.{Base}
+use Rattle.schema_form.specs.declared.bases.Base.TheVariants.{Texts, Integers, Barred}
 use Rattle.schema_form.specs.declared.bases.Link.{Link}
 use Rattle.schema_form.specs.declared.bases.Link.TheVariants.{Known, SameAs}
 use Rattle.schema_form.specs.Words.{plain_of}
-use Rattle.schema_form.specs.Names.{plain_or, entry_of, word_base, base_within, base_of, most_names, word_of}
+use Rattle.schema_form.specs.Names.{refinable, keyed_base, plain_or, entry_of, word_base, base_within, base_of, most_names, word_of}
 use Rattle.schema_form.specs.Bases.{first_link, first_links, followed, doubled, LeadsIn, ended, value_of, link_base, IsLink, AreLinks, AreBases, each_known, word_link, known_base, option_join}
 use Rattle.schema_form.proofs.Naming.{entry_from-value, value_at-none}
 
@@ -26,10 +27,10 @@ base_within-none ms (suc n) = refl
 base_within-text : (ms : Fields) (n : ℕ) (s : List ℕ) → base_within ms (n + 1) (Some (text s)) ≡ word_base (plain_of s) (base_within ms n (value_at s ms))
 base_within-text ms n s = rw add-one refl
 
--- a value that is no text has no base, however far names are followed
+-- a value that is no text has the same base however far names are followed
 module _ (fs : List Field) where
-  IsLink-other : (v : Value) → ((n : ℕ) → base_within (fields_view fs) (suc n) (Some v) ≡ None) → IsLink fs 1 (Some v) (Known None)
-  IsLink-other v none = record { within = tt; same = λ n. rw add-one (none n) }
+  IsLink-other : (v : Value) (base : Option Base) → ((n : ℕ) → base_within (fields_view fs) (suc n) (Some v) ≡ base) → IsLink fs 1 (Some v) (Known base)
+  IsLink-other v base is = record { within = tt; same = λ n. rw add-one (is n) }
 
   IsLink-text : (s : List ℕ) (plain : Option Plain) (entry : Option EntryNo) → plain_of s ≡ plain → entry_of (fields_view fs) s ≡ entry
       → IsLink fs 1 (Some (text s)) (word_link (plain_or plain entry))
@@ -49,11 +50,11 @@ module _ (fs : List Field) where
 
   IsLink-first : (v : Value) → IsLink fs 1 (Some v) (first_link (fields_view fs) v)
   IsLink-first (text s) = IsLink-text s (plain_of s) (entry_of (fields_view fs) s) refl refl
-  IsLink-first null = IsLink-other null (λ n. refl)
-  IsLink-first (boolean b) = IsLink-other (boolean b) (λ n. refl)
-  IsLink-first (integer z) = IsLink-other (integer z) (λ n. refl)
-  IsLink-first (list a ps) = IsLink-other (list a ps) (λ n. refl)
-  IsLink-first (dict a ms) = IsLink-other (dict a ms) (λ n. refl)
+  IsLink-first null = IsLink-other null None (λ n. refl)
+  IsLink-first (boolean b) = IsLink-other (boolean b) None (λ n. refl)
+  IsLink-first (integer z) = IsLink-other (integer z) None (λ n. refl)
+  IsLink-first (list a ps) = IsLink-other (list a ps) None (λ n. refl)
+  IsLink-first (dict a ms) = IsLink-other (dict a ms) (keyed_base (dict a ms)) (λ n. refl)
 
   by_field : (i : ℕ) (o : Option Field) (link : Link) → option_map (λ f. first_link (fields_view fs) (view f.value)) o ≡ Some link → slice_get fs i ≡ o → IsLink fs 1 (value_of fs i) link
   by_field i None link h is = absurd cc
@@ -156,3 +157,20 @@ known fs bases s w None (Some e) are is at h =
 
 pub known_base-word : (fs : List Field) (bases : List (Option Base)) (s : List ℕ) (w : Word) → AreBases fs bases → word_of (fields_view fs) s ≡ Some w → known_base bases w ≡ base_of (fields_view fs) s
 known_base-word fs bases s w are h = known fs bases s w (plain_of s) (entry_of (fields_view fs) s) are refl refl h
+
+-- what is neither a plain type nor an entry has no base
+unknown : (types : Fields) (s : List ℕ) (plain : Option Plain) (entry : Option EntryNo) → plain_of s ≡ plain → entry_of types s ≡ entry → None ≡ plain_or plain entry → base_of types s ≡ None
+unknown types s (Some p) entry is at h = absurd cc
+unknown types s None (Some e) is at h = absurd cc
+unknown types s None None is at h =
+    ap (λ o. word_base o (base_within types most_names (value_at s types))) is ∙ ap (base_within types most_names) (value_at-none s types at) ∙ base_within-none types most_names
+
+pub base_of-unknown : (types : Fields) (s : List ℕ) → None ≡ word_of types s → base_of types s ≡ None
+base_of-unknown types s h = unknown types s (plain_of s) (entry_of types s) refl refl h
+
+-- a base that may be refined is the base
+pub refinable-is : (o : Option Base) (b : Base) → refinable o ≡ Some b → o ≡ Some b
+refinable-is (Some Texts) b is = is
+refinable-is (Some Integers) b is = is
+refinable-is (Some Barred) b is = absurd cc
+refinable-is None b is = absurd cc

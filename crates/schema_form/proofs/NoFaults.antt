@@ -1,7 +1,7 @@
 -- What it says of each part that there are no faults.
 use Rattle.std.proofs.Common.{◌≡◌, ℕ, List, [], ◌∷◌, ◌++◌, Bool, true, false, refl}
 use Rattle.pointer_core.specs.declared.schema_rule.SchemaRule.{SchemaRule}
-use Rattle.schema_form.specs.declared.fault.Fault.{Fault}
+use Rattle.expr_form.specs.declared.fault.Fault.{Fault}
 use Rattle.schema_form.specs.Faults.{here, unless, under}
 
 pub append_none : {X : Type 0} (xs ys : List X) → xs ++ ys ≡ [] → (xs ≡ []) × (ys ≡ [])

@@ -1,14 +1,12 @@
 -- What stands in a record whose keys are in order.
-use Rattle.std.proofs.Common.{◌≡◌, ℕ, zero, suc, ◌+◌, ◌<◌, List, [], ◌∷◌, length, get_or, drop, true, false, Some, None, codes, if◌then◌else◌, sym, ◌∙◌, ap, subst, arith, drop-cons, add-one}
+use Rattle.std.proofs.Common.{◌≡◌, ℕ, zero, suc, ◌<◌, List, [], ◌∷◌, length, get_or, true, false, Some, None, codes, if◌then◌else◌, sym, subst, arith}
 use Rattle.std.specs.Str.{bytes_eq}
 use Rattle.snap_core.specs.Value.{Value, null, boolean, integer, text, list, dict, no_members, member, IsOrdered, AreKeyed, AreOrderedMembers, Fields}
 use Rattle.snap_core.specs.declared.snap.Field.{Field}
 use Rattle.snap_core.specs.View.{view, fields_view}
 use Rattle.snap_core.proofs.Keys.{AreKeyed-ordered}
 use Rattle.snap_core.proofs.Views.{entry-fields}
-use Rattle.schema_form.specs.declared.entries.Gathered.{Gathered}
-use Rattle.schema_form.specs.Faults.{entries, model_in}
-use Rattle.schema_form.specs.Layout.{with_entry, with_entries}
+use Rattle.schema_form.specs.Entries.{entries, model_in}
 
 pub keyed_by_order : (ms : Fields) → AreOrderedMembers ms → AreKeyed ms
 keyed_by_order = AreKeyed-ordered
@@ -30,14 +28,6 @@ pub ordered_value : (fs : List Field) (at : ℕ) (f : Field) → AreOrderedMembe
 ordered_value fs at f ordered within is =
     let P : Field → Type 0 = λ g. IsOrdered (view g.value) in
     subst P (sym is) (value_in fs at f ordered within)
-
--- one entry more
-pub entries-step : (types : Fields) (g : Gathered) (fs : List Field) (i : ℕ) (f : Field) → i < length fs → f ≡ get_or fs i f
-    → with_entries types g (fields_view (drop i fs)) ≡ with_entries types (with_entry types g f.key (view f.value)) (fields_view (drop (i + 1) fs))
-entries-step types g fs i f within here =
-    let left : drop i fs ≡ f ∷ drop (i + 1) fs = rw (add-one, drop-cons fs i f, ← here) in
-    let rest : Fields = fields_view (drop (i + 1) fs) in
-    ap (λ gs. with_entries types g (fields_view gs)) left ∙ ap (λ (e : List ℕ × Value). with_entries types g (member e.0 e.1 rest)) (entry-fields f)
 
 -- a model stands in order where its entry does
 pub model-ordered : (v model : Value) → model_in v ≡ Some model → IsOrdered v → IsOrdered model

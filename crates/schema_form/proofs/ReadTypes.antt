@@ -27,10 +27,10 @@ use Rattle.schema_form.specs.declared.words.Form.TheVariants as form
 use Rattle.schema_form.specs.declared.words.Leaf.{Leaf}
 use Rattle.schema_form.specs.declared.words.Leaf.TheVariants as leaf
 use Rattle.schema_form.specs.Words.{plain_of, form_of}
-use Rattle.schema_form.specs.Names.{entry_of, plain_or, word_of, base_of}
+use Rattle.schema_form.specs.Names.{entry_of, plain_or, word_of, base_of, refinable}
 use Rattle.schema_form.specs.Faults.{unless, under, number_faults, word_faults, base_faults, base_in, conditions_faults, refinement_faults, name_faults, numbered, leaf_faults, form_faults, keyed_faults, type_faults, item_faults, parts_faults, enumeration_faults}
 use Rattle.schema_form.specs.Layout.{Layout, type_no, said, entry_named, texts_in, conditions_in, members_laid, member_numbers, form_laid, keyed_laid, type_laid, items_laid, parts_laid_of}
-use Rattle.schema_form.specs.Pointers.{IsPointer, entry, property, part, places_of, step_path}
+use Rattle.schema_form.specs.Pointers.{IsPointer, entry, property, param, part, places_of, step_path}
 use Rattle.schema_form.specs.Reading.{kind_at, name_at, IsWord, keyed, pair, text_items, condition_fields, IsReadFrom, AreReadFrom, no_more, one_more}
 use Rattle.schema_form.specs.Reading as read
 use Rattle.schema_form.specs.Laws.{PathLeads, Inner, inner_members, inner_of, IsInside, IsReadAt}
@@ -93,6 +93,7 @@ module _ (f : SchemaForm) (file : Value) (types : Fields) (known : (s : List ℕ
     go : (m : ℕ) → slice_get places m ≡ Some (place.Part (type_no n) s) → (path : Path) → IsPointerTo m path → path ≡ has.pointer ++ step_path s
     go _ at _ (entry t e one there named) = let same : place.Entry e ≡ place.Part (type_no n) s = same_Some _ _ (sym there ∙ at) in cc
     go _ at _ (property t m i model p there stands lies) = let same : place.Property m i ≡ place.Part (type_no n) s = same_Some _ _ (sym there ∙ at) in cc
+    go _ at _ (param t m i j model action there stands lies) = let same : place.Param m i j ≡ place.Part (type_no n) s = same_Some _ _ (sym there ∙ at) in cc
     go _ at _ (part t u other path there up) =
         let same : place.Part u other ≡ place.Part (type_no n) s = same_Some _ _ (sym there ∙ at) in
         let whole : u ≡ type_no n = cc in
@@ -213,7 +214,7 @@ module _ (f : SchemaForm) (file : Value) (types : Fields) (known : (s : List ℕ
       → IsRead (keyed (codes "refinement") (pair (text s) cs)) (form_laid types (form.Leaf leaf.Refinement) (pair (text s) cs) inner items)
   read-conditions s (dict a ms) inner items none = λ n at stand leads.
       let parts = append_none (under (codes "0") (base_faults types (text s))) (under (codes "1") (conditions_faults (base_of types s) (dict a ms))) none in
-      let word = (append_none (word_faults types s) (unless (is_some (base_of types s)) Shape) (under_none (codes "0") (base_faults types (text s)) parts.0)).0 in
+      let word = (append_none (word_faults types s) (unless (is_some (refinable (base_of types s))) Shape) (under_none (codes "0") (base_faults types (text s)) parts.0)).0 in
       let fields = condition_fields-in (base_of types s) ms (under_none (codes "1") (conditions_faults (base_of types s) (dict a ms)) parts.1) in
       let P : Fields → Type 0 = λ ys. IsReadFrom f n (keyed (codes "refinement") (pair (text s) (dict tt ys))) in
       around (keyed (codes "refinement") (pair (text s) (dict a ms))) (text s) (kind.Refinement (type_no (n + 1)) (conditions_in (base_of types s) ms)) step.Refined

@@ -8,8 +8,11 @@ use Rattle.snap_core.specs.View.{view, items_view, fields_view}
 use Rattle.snap_core.proofs.Views.{entry-fields}
 use Rattle.pointer_core.specs.declared.schema_rule.SchemaRule.TheVariants.{Shape}
 use Rattle.schema_form.specs.declared.words.Form.TheVariants as form
-use Rattle.schema_form.specs.Faults.{here, under, texts_faults, enumeration_faults, number_faults, base_faults, base_in, conditions_faults, refinement_faults, numbered, parts_faults, type_faults, inside_faults, field_faults, is_expression, model_in}
+use Rattle.schema_form.specs.Faults.{here, under, texts_faults, enumeration_faults, number_faults, base_faults, base_in, conditions_faults, refinement_faults, numbered, parts_faults, type_faults, inside_faults, field_faults, is_expression}
+use Rattle.schema_form.specs.Entries.{model_in}
 use Rattle.schema_form.specs.Words.{form_of}
+use Rattle.schema_form.specs.Names.{keyed_base}
+use Rattle.schema_form.specs.declared.bases.Base.TheVariants.{Barred}
 
 pub enumeration-some : (vs : List Snap) → (length vs == 0) ≡ false → enumeration_faults (list tt (items_view vs)) ≡ texts_faults [] 0 (items_view vs)
 enumeration-some [] some = cc
@@ -84,3 +87,16 @@ model-one (g ∷ []) f b one here test =
     let P : List ℕ × Value → Type 0 = λ e. (if bytes_eq e.0 (codes "model") then Some e.1 else None) ≡ (if b then Some (view f.value) else None) in
     subst P (sym (entry-fields g)) (rw (← here, test))
 model-one (g ∷ h ∷ fs) f b one here test = absurd (omega arith)
+
+pub keyed_base-other : (fs : List Field) → (length fs ≡ 1 → ⊥) → keyed_base (dict tt (fields_view fs)) ≡ None
+keyed_base-other [] other = refl
+keyed_base-other (f ∷ []) other = absurd (other refl)
+keyed_base-other (f ∷ g ∷ fs) other = refl
+
+pub keyed_base-one : (fs : List Field) (f : Field) (b : Bool) → length fs ≡ 1 → f ≡ get_or fs 0 f → bytes_eq f.key (codes "safeReference") ≡ b
+    → keyed_base (dict tt (fields_view fs)) ≡ (if b then Some Barred else None)
+keyed_base-one [] f b one here test = absurd (omega arith)
+keyed_base-one (g ∷ []) f b one here test =
+    let P : List ℕ × Value → Type 0 = λ e. (if bytes_eq e.0 (codes "safeReference") then Some Barred else None) ≡ (if b then Some Barred else None) in
+    subst P (sym (entry-fields g)) (rw (← here, test))
+keyed_base-one (g ∷ h ∷ fs) f b one here test = absurd (omega arith)

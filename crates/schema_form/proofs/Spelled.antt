@@ -12,7 +12,7 @@ use Rattle.schema_form.specs.declared.words.Leaf.TheVariants as leaf
 use Rattle.schema_form.specs.declared.words.Form.{Form}
 use Rattle.schema_form.specs.declared.words.Form.TheVariants as form
 use Rattle.schema_form.specs.declared.bases.Base.{Base}
-use Rattle.schema_form.specs.declared.bases.Base.TheVariants.{Texts, Integers}
+use Rattle.schema_form.specs.declared.bases.Base.TheVariants.{Texts, Integers, Barred}
 use Rattle.schema_form.specs.Words.{form_of}
 use Rattle.schema_form.specs.Faults.{unless, under, is_among, texts_faults, bound, condition_of, condition_faults, member_faults}
 use Rattle.schema_form.specs.Layout.{texts_in, one_of, conditions_in}
@@ -101,6 +101,7 @@ spelled (Some Texts) key null = tt
 spelled (Some Texts) key (boolean b) = tt
 spelled (Some Texts) key (list a ps) = tt
 spelled (Some Texts) key (dict a ms) = tt
+spelled (Some Barred) key v = tt
 spelled None key v = tt
 
 one-condition : (key : List ℕ) (v : Value) (fields : Fields) (conditions : List Condition) (o : Option Condition) → IsSpelled key v o → unless (is_some o) Shape ≡ []

@@ -23,7 +23,7 @@ use Rattle.schema_form.specs.declared.words.Form.TheVariants as form
 use Rattle.schema_form.specs.declared.words.Leaf.{Leaf}
 use Rattle.schema_form.specs.declared.words.Leaf.TheVariants as leaf
 use Rattle.schema_form.specs.Words.{plain_of, form_of}
-use Rattle.schema_form.specs.Names.{has_key, entry_of, plain_or, word_of, word_in, base_of}
+use Rattle.schema_form.specs.Names.{has_key, entry_of, plain_or, word_of, word_in, base_of, refinable}
 use Rattle.schema_form.specs.Faults.{here, unless, under, number_faults, word_faults, base_faults, base_in, conditions_faults, refinement_faults, literal_faults, name_faults, numbered, leaf_faults, form_faults, keyed_faults, type_faults, item_faults, parts_faults}
 use Rattle.schema_form.specs.Layout.{Layout, type_no, said, word_kind, entry_named, leaf_kind, conditions_of, members_laid, member_numbers, form_laid, keyed_laid, type_laid, items_laid, parts_laid_of}
 use Rattle.schema_form.specs.Pointers.{IsPlaceAmong}
@@ -127,7 +127,7 @@ module _ (f : SchemaForm) (types : Fields) (known : (s : List ℕ) (e : EntryNo)
   -- the base of a refinement
   base-known : (t : Value) → base_faults types t ≡ [] → (w : Word) × (word_in types t ≡ Some w) × IsKindIn f (kind.Word w)
   base-known (text s) none =
-      let w = word-known types s (plain_of s) (entry_of types s) refl refl (append_none (word_faults types s) (unless (is_some (base_of types s)) Shape) none).0 in
+      let w = word-known types s (plain_of s) (entry_of types s) refl refl (append_none (word_faults types s) (unless (is_some (refinable (base_of types s))) Shape) none).0 in
       (w.0, w.1, word-in s w.0 w.1)
   base-known null none = absurd (here_some Shape none)
   base-known (boolean b) none = absurd (here_some Shape none)

@@ -9,16 +9,17 @@ use Rattle.std.proofs.lemmas.Slice.Eq.{bytes_eq-Decides}
 use Rattle.snap_core.specs.Value.{Value, null, boolean, integer, text, list, dict, no_members, member, value_at, IsOrdered, AreOrderedMembers, AreAscending, keys_of, Fields}
 use Rattle.snap_core.proofs.Keys.{AreKeyed-ordered, IsOrdered-value_at}
 use Rattle.pointer_core.specs.declared.schema_rule.SchemaRule.TheVariants.{Shape}
-use Rattle.schema_form.specs.declared.fault.Fault.{Fault}
+use Rattle.expr_form.specs.declared.fault.Fault.{Fault}
 use Rattle.schema_form.specs.declared.form.SchemaForm.{SchemaForm}
 use Rattle.schema_form.specs.declared.form.EntryNo.{EntryNo}
 use Rattle.schema_form.specs.declared.form.Entry.{Entry}
 use Rattle.schema_form.specs.declared.form.Expression.{Expression}
 use Rattle.schema_form.specs.declared.form.Place.{Place}
-use Rattle.schema_form.specs.declared.entries.Gathered.{Gathered}
+use Rattle.model_syntax.specs.Shown.{behaviour_shown}
 use Rattle.schema_form.specs.Names.{has_key, entry_of}
-use Rattle.schema_form.specs.Faults.{unless, under, member_faults, entry_faults, types_faults, part_faults, file_faults, entries, entries_in, types_of}
-use Rattle.schema_form.specs.Layout.{nothing}
+use Rattle.schema_form.specs.Faults.{unless, under, member_faults, entry_faults, types_faults, part_faults, file_faults}
+use Rattle.schema_form.specs.Entries.{entries, entries_in, types_of}
+use Rattle.schema_form.specs.Gathering.{Gathering, form_shown, nothing}
 use Rattle.schema_form.specs.Pointers.{IsPlaceAmong}
 use Rattle.schema_form.specs.Form.{root_in, IsForm, IsWhole, IsModelIn}
 use Rattle.schema_form.proofs.NoFaults.{append_none, under_none, here_some}
@@ -101,8 +102,8 @@ entry_name e = e.name
 pub whole : (file : Value) (f : SchemaForm) → IsOrdered file → file_faults file ≡ [] → IsForm file f → IsWhole f
 whole file f ordered none form =
     let types : Fields = types_of file in
-    let final : Gathered = record { entries = f.entries; expressions = f.expressions; models = f.models } in
-    let names : map entry_name f.entries ≡ keys_of types = sym (ap (λ (g : Gathered). map entry_name g.entries) form.types) ∙ names-gathered types nothing types in
+    let final : Gathering = form_shown f in
+    let names : map entry_name f.entries ≡ keys_of types = sym (ap (λ (g : Gathering). map entry_name g.entries) form.types) ∙ names-gathered types nothing types in
     let count : length f.entries ≡ length (keys_of types) = sym (length-map f.entries entry_name) ∙ ap length names in
     let known : (s : List ℕ) (e : EntryNo) → entry_of types s ≡ Some e → e.0 < length f.entries = λ s e is. omega (arith, entry-bound s 0 types e is, count) in
     let sound = file-types file ordered none in
@@ -117,4 +118,6 @@ whole file f ordered none form =
       typed = gathered.typed;
       named = subst P (sym names) (AreKeyed-ordered types sound.1);
       root = known root.0 f.root root.1;
+      behaviours = sym (length-map f.behaviours behaviour_shown) ∙ gathered.paired;
+      astray = gathered.astray;
     }

@@ -9,7 +9,7 @@ use Rattle.schema_form.specs.declared.form.Word.TheVariants as word
 use Rattle.schema_form.specs.declared.bases.Base.{Base}
 use Rattle.schema_form.specs.declared.bases.Link.{Link}
 use Rattle.schema_form.specs.declared.bases.Link.TheVariants.{Known, SameAs}
-use Rattle.schema_form.specs.Names.{plain_base, word_of, base_within, most_names}
+use Rattle.schema_form.specs.Names.{plain_base, keyed_base, word_of, base_within, most_names}
 
 -- the link of an entry: a name leads to the entry of that name
 abbrev pub word_link : Option Word → Link
@@ -19,7 +19,7 @@ word_link None = Known None
 
 abbrev pub first_link : Fields → Value → Link
 first_link types (text s) = word_link (word_of types s)
-first_link types _ = Known None
+first_link types v = Known (keyed_base v)
 
 abbrev pub first_links : List Field → List Link
 first_links types = map (λ f. first_link (fields_view types) (view f.value)) types

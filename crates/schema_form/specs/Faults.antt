@@ -1,15 +1,16 @@
 -- The faults that the first pass over a schema file finds, in form, names, repetitions and the length of the history, in document order. The first counts: one that stands behind another may come of it.
-use Rattle.std.specs.Prelude.{ℕ, ◌+◌, ℤ, pos, int_le, List, [], ◌∷◌, ◌++◌, map, codes, decimal, Bool, true, false, ◌&&◌, not, is_some, is_none, Option, Some, None, if◌then◌else◌}
+use Rattle.std.specs.Prelude.{ℕ, ◌+◌, ℤ, pos, int_le, List, [], ◌∷◌, ◌++◌, map, codes, decimal, Bool, true, false, ◌&&◌, not, is_some, is_none, nat_le, Option, Some, None, if◌then◌else◌}
 use Rattle.std.specs.List.{list_any}
 use Rattle.std.specs.Ordering.{int_eq}
 use Rattle.std.specs.Str.{bytes_eq}
 use Rattle.snap_core.specs.Name.{is_name}
+use Rattle.snap_core.specs.Level.{count_of}
 use Rattle.snap_core.specs.Value.{Value, integer, text, list, dict, no_parts, part, no_members, member, value_at, is_whole, Items, Fields}
 use Rattle.pointer_core.specs.declared.schema_rule.SchemaRule.{SchemaRule}
-use Rattle.pointer_core.specs.declared.schema_rule.SchemaRule.TheVariants.{Shape, Name, Twice, History}
+use Rattle.pointer_core.specs.declared.schema_rule.SchemaRule.TheVariants.{Shape, Name, Twice, Arguments, History}
 use Rattle.type_table.specs.declared.shape.Condition.{Condition}
 use Rattle.type_table.specs.declared.shape.Condition.TheVariants.{Min, Max, MinLength, MaxLength, StartsWith}
-use Rattle.schema_form.specs.declared.fault.Fault.{Fault}
+use Rattle.expr_form.specs.declared.fault.Fault.{Fault}
 use Rattle.schema_form.specs.declared.fault.FormError.{FormError}
 use Rattle.schema_form.specs.declared.fault.FormError.TheVariants.{Wrong}
 use Rattle.schema_form.specs.declared.words.Leaf.{Leaf}
@@ -19,7 +20,15 @@ use Rattle.schema_form.specs.declared.words.Form.TheVariants as form
 use Rattle.schema_form.specs.declared.bases.Base.{Base}
 use Rattle.schema_form.specs.declared.bases.Base.TheVariants.{Texts, Integers}
 use Rattle.schema_form.specs.Words.{plain_of, form_of}
-use Rattle.schema_form.specs.Names.{has_key, base_of}
+use Rattle.schema_form.specs.Names.{has_key, base_of, type_base, refinable, is_barred}
+use Rattle.schema_form.specs.Entries.{model_in, param_in, types_of}
+use Rattle.schema_form.specs.Targets.{lookup}
+use Rattle.expr_form.specs.Outcome.{Outcome, wrong}
+use Rattle.expr_form.specs.Names.{is_fixed}
+use Rattle.behaviour_form.specs.Named.{stands_in, is_taken}
+use Rattle.behaviour_form.specs.Actions.{action_body_read}
+use Rattle.behaviour_form.specs.Middleware.{middleware_read}
+use Rattle.behaviour_form.specs.Views.{views_read}
 
 -- a rule that isn't met at the place itself
 abbrev pub here : SchemaRule → List Fault
@@ -88,7 +97,7 @@ word_faults types s = if is_some (plain_of s) then [] else unless (has_key s typ
 
 -- the base of a refinement is "string" or "integer", or a name that leads to one of them
 abbrev pub base_faults : Fields → Value → List Fault
-base_faults types (text s) = word_faults types s ++ unless (is_some (base_of types s)) Shape
+base_faults types (text s) = word_faults types s ++ unless (is_some (refinable (base_of types s))) Shape
 base_faults types _ = here Shape
 
 abbrev pub base_in : Fields → Value → Option Base
@@ -186,26 +195,93 @@ misnamed is_formed = Wrong (record { path = []; rule = if is_formed then Name el
 abbrev pub key_faults : Bool → Bool → List Fault
 key_faults is_formed is_good = if is_good then [] else here (if is_formed then Name else Shape)
 
--- the properties of a model are type expressions under names
-abbrev pub property_faults : Fields → List ℕ → Value → List Fault
-property_faults types k v = key_faults (is_expression v) (is_name k) ++ type_faults types v
+-- the faults of a type expression at its own place, before what else may be wrong there
+abbrev pub own_faults : Fields → Value → List Fault
+own_faults types (text s) = word_faults types s
+own_faults types v = unless (is_expression v) Shape
 
-abbrev pub properties_faults : Fields → Value → List Fault
-properties_faults types (dict a ms) = member_faults (property_faults types) ms
-properties_faults types _ = here Shape
+-- The properties of a model, of which all parts are given, are type expressions under names. None has the name of an action.
+abbrev pub property_faults : Fields → Fields → List ℕ → Value → List Fault
+property_faults types parts k v =
+    key_faults (is_expression v) (is_name k) ++ own_faults types v ++ unless (not (stands_in (codes "actions") parts k)) Twice ++ type_faults types v
 
--- a model has properties; its other parts aren't built yet
-abbrev pub model_part_faults : Fields → List ℕ → Value → List Fault
-model_part_faults types k v = if bytes_eq k (codes "properties") then properties_faults types v else here Shape
+abbrev pub properties_faults : Fields → Fields → Value → List Fault
+properties_faults types parts (dict a ms) = member_faults (property_faults types parts) ms
+properties_faults types parts _ = here Shape
 
+-- the name of a parameter: those of the parameters before it are given
+abbrev pub param_name_faults : List (List ℕ) → Value → List Fault
+param_name_faults earlier (text s) = unless (is_name s) Name ++ unless (not (is_fixed s)) Twice ++ unless (not (is_among earlier s)) Arguments
+param_name_faults earlier _ = here Shape
+
+-- its type: no identifier, and no safe reference
+abbrev pub param_type_faults : Fields → Value → List Fault
+param_type_faults types v = own_faults types v ++ unless (not (is_barred (type_base types v))) Arguments ++ type_faults types v
+
+-- a parameter is a list of both
+abbrev pub param_faults : Fields → List (List ℕ) → Value → List Fault
+param_faults types earlier (list a (part name (part of no_parts))) = under (codes "0") (param_name_faults earlier name) ++ under (codes "1") (param_type_faults types of)
+param_faults types earlier _ = here Shape
+
+-- the names of parameters with one more
+abbrev pub with_name : List (List ℕ) → Option (List ℕ × Value) → List (List ℕ)
+with_name earlier (Some p) = earlier ++ p.0 ∷ []
+with_name earlier None = earlier
+
+abbrev pub params_from : Fields → List (List ℕ) → ℕ → Items → List Fault
+params_from types earlier i no_parts = []
+params_from types earlier i (part v ps) = under (decimal i) (param_faults types earlier v) ++ params_from types (with_name earlier (param_in v)) (i + 1) ps
+
+-- an action has at most eight
+abbrev pub is_few : Items → Bool
+is_few ps = nat_le (count_of ps) 8
+
+abbrev pub params_faults : Fields → Value → List Fault
+params_faults types (list a ps) = unless (is_few ps) Arguments ++ params_from types [] 0 ps
+params_faults types _ = here Shape
+
+-- the fault of a part that is read by itself; what leads nowhere is no fault of this pass
+abbrev pub told : {A : Type 0} → Outcome A → List Fault
+told (wrong f) = f ∷ []
+told _ = []
+
+-- the parts of an action: its body, in which its parameters are bound, and its parameters
+abbrev pub action_part_faults : Fields → Fields → List ℕ → Value → List Fault
+action_part_faults types parts k v =
+    if bytes_eq k (codes "body") then told (action_body_read (lookup types) (value_at (codes "params") parts) v)
+    else if bytes_eq k (codes "params") then params_faults types v
+    else here Shape
+
+-- whether a value is an object with a body, whatever stands in it
+abbrev pub is_action : Value → Bool
+is_action (dict a ms) = has_key (codes "body") ms
+is_action _ = false
+
+abbrev pub action_inside : Fields → Value → List Fault
+action_inside types (dict a ms) = unless (has_key (codes "body") ms) Shape ++ member_faults (action_part_faults types ms) ms
+action_inside types _ = here Shape
+
+-- the actions of a model stand under names
+abbrev pub action_faults : Fields → List ℕ → Value → List Fault
+action_faults types k v = key_faults (is_action v) (is_name k) ++ action_inside types v
+
+abbrev pub actions_faults : Fields → Value → List Fault
+actions_faults types (dict a ms) = member_faults (action_faults types) ms
+actions_faults types _ = here Shape
+
+-- the parts of a model: each goes by all of them
+abbrev pub model_part_faults : Fields → Fields → List ℕ → Value → List Fault
+model_part_faults types parts k v =
+    if bytes_eq k (codes "actions") then actions_faults types v
+    else if bytes_eq k (codes "middleware") then told (middleware_read (lookup types) v)
+    else if bytes_eq k (codes "properties") then properties_faults types parts v
+    else if bytes_eq k (codes "views") then told (views_read (lookup types) (is_taken parts) v)
+    else here Shape
+
+-- a model has properties
 abbrev pub model_faults : Fields → Value → List Fault
-model_faults types (dict a ms) = unless (has_key (codes "properties") ms) Shape ++ member_faults (model_part_faults types) ms
+model_faults types (dict a ms) = unless (has_key (codes "properties") ms) Shape ++ member_faults (model_part_faults types ms) ms
 model_faults types _ = here Shape
-
--- the model that an entry of the types is, if it is one
-abbrev pub model_in : Value → Option Value
-model_in (dict a (member k v no_members)) = if bytes_eq k (codes "model") then Some v else None
-model_in _ = None
 
 -- an entry of the types is a model or a type expression, under a name of its own
 abbrev pub is_free : List ℕ → Bool
@@ -231,19 +307,6 @@ history_faults _ = here Shape
 abbrev pub host_faults : Value → List Fault
 host_faults (integer z) = unless (int_eq z (pos 1)) Shape
 host_faults _ = here Shape
-
--- the entries of an object; none of any other value, and none where there is no value
-abbrev pub entries : Value → Fields
-entries (dict a ms) = ms
-entries _ = no_members
-
-abbrev pub entries_in : Option Value → Fields
-entries_in (Some v) = entries v
-entries_in None = no_members
-
--- the types of a file
-abbrev pub types_of : Value → Fields
-types_of file = entries_in (value_at (codes "types") (entries file))
 
 abbrev pub part_faults : Fields → List ℕ → Value → List Fault
 part_faults types k v =

@@ -12,9 +12,11 @@ use Rattle.schema_form.specs.declared.form.Expression.{Expression}
 use Rattle.schema_form.specs.declared.form.Word.TheVariants as word
 use Rattle.schema_form.specs.declared.form.Kind.{Kind}
 use Rattle.schema_form.specs.declared.form.Kind.TheVariants as kind
-use Rattle.schema_form.specs.Faults.{entries, types_of}
+use Rattle.schema_form.specs.Entries.{entries, types_of}
 use Rattle.schema_form.specs.Pointers.{places_of, ArePlaces}
-use Rattle.schema_form.specs.Layout.{gathered, entry_named}
+use Rattle.schema_form.specs.Layout.{entry_named}
+use Rattle.schema_form.specs.Gathering.{gathered, form_shown}
+use Rattle.schema_form.specs.declared.form.Astray.{Astray}
 
 -- the entry that the root names
 abbrev pub root_in : Value → Option Value → Option EntryNo
@@ -32,9 +34,9 @@ history_in _ = pos 50
 abbrev pub history_of : Value → ℤ
 history_of file = history_in (value_at (codes "history") (entries file))
 
--- the form of a file: its entries, expressions and models, its root and its history
+-- the form of a file: what its types say, its root and its history
 pub record IsForm (file : Value) (form : SchemaForm) : Type 0 where
-  pub types : gathered (types_of file) ≡ record { entries = form.entries; expressions = form.expressions; models = form.models }
+  pub types : gathered (types_of file) ≡ form_shown form
   pub root : root_of file ≡ Some form.root
   pub history : history_of file ≡ pos form.history
 
@@ -64,3 +66,5 @@ pub record IsWhole (form : SchemaForm) : Type 0 where
   pub typed : All (λ (e : Entry). e.of.0 < length form.expressions) form.entries
   pub named : AreAscending (map (λ (e : Entry). e.name) form.entries)
   pub root : form.root.0 < length form.entries
+  pub behaviours : length form.behaviours ≡ length form.models
+  pub astray : (a : Astray) → form.astray ≡ Some a → a.model.0 < length form.models

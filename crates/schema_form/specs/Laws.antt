@@ -11,7 +11,8 @@ use Rattle.schema_form.specs.declared.form.ModelForm.{ModelForm}
 use Rattle.schema_form.specs.declared.form.Kind.{Kind}
 use Rattle.schema_form.specs.declared.form.Kind.TheVariants as kind
 use Rattle.schema_form.specs.declared.form.Step.TheVariants.{Held, Defaulted, Refined, Member}
-use Rattle.schema_form.specs.Faults.{file_faults, entries, types_of}
+use Rattle.schema_form.specs.Faults.{file_faults}
+use Rattle.schema_form.specs.Entries.{entries, types_of}
 use Rattle.schema_form.specs.Form.{IsForm}
 use Rattle.schema_form.specs.Pointers.{IsPointer, places_of, step_path, entry_path, property_path}
 use Rattle.schema_form.specs.Reading.{kind_at, IsReadFrom, entry_names, name_at}

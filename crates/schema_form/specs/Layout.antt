@@ -9,7 +9,6 @@ use Rattle.type_table.specs.declared.shape.Condition.{Condition}
 use Rattle.type_table.specs.declared.shape.Property.{Property}
 use Rattle.schema_form.specs.declared.form.Expression.{Expression}
 use Rattle.schema_form.specs.declared.form.EntryNo.{EntryNo}
-use Rattle.schema_form.specs.declared.entries.Gathered.{Gathered}
 use Rattle.schema_form.specs.declared.form.Place.{Place}
 use Rattle.schema_form.specs.declared.form.Place.TheVariants as place
 use Rattle.schema_form.specs.declared.form.Step.TheVariants as step
@@ -22,7 +21,7 @@ use Rattle.schema_form.specs.declared.words.Form.TheVariants as form
 use Rattle.schema_form.specs.declared.bases.Base.{Base}
 use Rattle.schema_form.specs.Words.{form_of}
 use Rattle.schema_form.specs.Names.{entry_of, word_of, word_in}
-use Rattle.schema_form.specs.Faults.{base_in, condition_of, model_in, entries}
+use Rattle.schema_form.specs.Faults.{base_in, condition_of}
 
 abbrev pub type_no : ℕ → TypeNo
 type_no n = record { 0 = n }
@@ -149,44 +148,3 @@ abbrev pub properties_of : Fields → ModelNo → ℕ → Fields → ℕ → Lis
 properties_of types m i no_members n = []
 properties_of types m i (member k v ms) n =
     record { name = k; of = type_no n } ∷ properties_of types m (i + 1) ms (n + length (type_laid types v n (place.Property m i)))
-
--- the properties of a model: the values of an object by their names
-abbrev pub properties_in : Value → Fields
-properties_in (dict a (member k v no_members)) = entries v
-properties_in _ = no_members
-
--- an entry that is a model, and one that isn't
-abbrev pub with_model : Fields → Gathered → List ℕ → Fields → Gathered
-with_model types g k ps =
-    let n = length g.expressions in
-    let m : ModelNo = record { 0 = length g.models } in record {
-      entries = g.entries ++ record { name = k; of = type_no n } ∷ [];
-      expressions = g.expressions
-          ++ record { place = place.Entry (record { 0 = length g.entries }); kind = kind.Model m } ∷ properties_laid types m 0 ps (n + 1);
-      models = g.models ++ record { name = k; properties = properties_of types m 0 ps (n + 1) } ∷ [];
-    }
-
-abbrev pub with_type : Fields → Gathered → List ℕ → Value → Gathered
-with_type types g k v =
-    let n = length g.expressions in record {
-      entries = g.entries ++ record { name = k; of = type_no n } ∷ [];
-      expressions = g.expressions ++ type_laid types v n (place.Entry (record { 0 = length g.entries }));
-      models = g.models;
-    }
-
-abbrev pub with_formed : Fields → Gathered → List ℕ → Value → Option Value → Gathered
-with_formed types g k v (Some model) = with_model types g k (properties_in model)
-with_formed types g k v None = with_type types g k v
-
-abbrev pub with_entry : Fields → Gathered → List ℕ → Value → Gathered
-with_entry types g k v = with_formed types g k v (model_in v)
-
-abbrev pub with_entries : Fields → Gathered → Fields → Gathered
-with_entries types g no_members = g
-with_entries types g (member k v ms) = with_entries types (with_entry types g k v) ms
-
-abbrev pub nothing : Gathered
-nothing = record { entries = []; expressions = []; models = [] }
-
-abbrev pub gathered : Fields → Gathered
-gathered types = with_entries types nothing types

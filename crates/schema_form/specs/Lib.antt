@@ -1,8 +1,15 @@
 pub mod Words
 pub mod Names
 pub mod Bases
+pub mod Entries
+pub mod Targets
 pub mod Faults
 pub mod Layout
+pub mod Modelled
+pub mod Gathering
+pub mod Told
+pub mod Setting
+pub mod SoFar
 pub mod Pointers
 pub mod Form
 pub mod Outcome

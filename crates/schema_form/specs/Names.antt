@@ -1,8 +1,8 @@
 -- What the names of a schema file lead to. `types` is the object under that key: the entries by their names.
-use Rattle.std.specs.Prelude.{ℕ, zero, suc, ◌+◌, ◌^◌, List, Bool, is_some, Option, Some, None, if◌then◌else◌}
+use Rattle.std.specs.Prelude.{ℕ, zero, suc, ◌+◌, ◌^◌, List, codes, Bool, true, false, is_some, Option, Some, None, if◌then◌else◌}
 use Rattle.std.specs.Option.{option_map}
 use Rattle.std.specs.Str.{bytes_eq}
-use Rattle.snap_core.specs.Value.{Value, text, no_members, member, value_at, Fields}
+use Rattle.snap_core.specs.Value.{Value, text, dict, no_members, member, value_at, Fields}
 use Rattle.schema_form.specs.declared.form.EntryNo.{EntryNo}
 use Rattle.schema_form.specs.declared.form.Plain.{Plain}
 use Rattle.schema_form.specs.declared.form.Plain.TheVariants as plain
@@ -37,11 +37,17 @@ abbrev pub word_in : Fields → Value → Option Word
 word_in types (text s) = word_of types s
 word_in types _ = None
 
--- the plain types that may be refined
+-- the plain types that may be refined, and the one that no parameter may be of
 abbrev pub plain_base : Plain → Option Base
 plain_base plain.Text = Some base.Texts
 plain_base plain.Integer = Some base.Integers
+plain_base plain.Identifier = Some base.Barred
 plain_base _ = None
+
+-- the base of a value that is no text: no parameter may be a safe reference either
+abbrev pub keyed_base : Value → Option Base
+keyed_base (dict a (member k v no_members)) = if bytes_eq k (codes "safeReference") then Some base.Barred else None
+keyed_base _ = None
 
 -- the base of a word: that of the plain type that it stands for, or else what is found further on
 abbrev pub word_base : Option Plain → Option Base → Option Base
@@ -52,7 +58,8 @@ word_base None further = further
 abbrev pub base_within : Fields → ℕ → Option Value → Option Base
 base_within types zero v = None
 base_within types (suc most) (Some (text s)) = word_base (plain_of s) (base_within types most (value_at s types))
-base_within types (suc most) _ = None
+base_within types (suc most) (Some v) = keyed_base v
+base_within types (suc most) None = None
 
 -- more names than any file has
 unfoldable pub most_names : ℕ
@@ -61,3 +68,19 @@ most_names = 2 ^ 64
 -- the base that a text stands for, names followed; None for any other type, and where names lead in a circle
 abbrev pub base_of : Fields → List ℕ → Option Base
 base_of types s = word_base (plain_of s) (base_within types most_names (value_at s types))
+
+-- the base of a type expression
+abbrev pub type_base : Fields → Value → Option Base
+type_base types (text s) = base_of types s
+type_base types v = keyed_base v
+
+-- the base of a type that may be refined
+abbrev pub refinable : Option Base → Option Base
+refinable (Some base.Texts) = Some base.Texts
+refinable (Some base.Integers) = Some base.Integers
+refinable _ = None
+
+-- whether no parameter may be of it
+abbrev pub is_barred : Option Base → Bool
+is_barred (Some base.Barred) = true
+is_barred _ = false

@@ -1,6 +1,6 @@
 -- What a part of the walk comes to: no fault, or the first one.
 use Rattle.std.specs.Prelude.{◌≡◌, List, [], Some, Result, Ok, Err}
-use Rattle.schema_form.specs.declared.fault.Fault.{Fault}
+use Rattle.expr_form.specs.declared.fault.Fault.{Fault}
 use Rattle.schema_form.specs.declared.fault.FormError.{FormError}
 use Rattle.schema_form.specs.declared.fault.FormError.TheVariants.{Memory, Wrong}
 use Rattle.schema_form.specs.Faults.{first}

@@ -5,8 +5,10 @@ use Rattle.snap_core.specs.Value.{Value, value_at, Fields}
 use Rattle.schema_form.specs.declared.form.EntryNo.{EntryNo}
 use Rattle.schema_form.specs.declared.form.SchemaForm.{SchemaForm}
 use Rattle.schema_form.specs.declared.file.Found.{Found}
-use Rattle.schema_form.specs.Faults.{entries}
-use Rattle.schema_form.specs.Layout.{entry_named, gathered}
+use Rattle.schema_form.specs.Entries.{entries}
+use Rattle.schema_form.specs.Layout.{entry_named}
+use Rattle.schema_form.specs.declared.entries.Gathered.{Gathered}
+use Rattle.schema_form.specs.Gathering.{gathered, gathered_shown}
 use Rattle.schema_form.specs.Form.{history_in}
 
 -- the root that was found is the entry that a value names
@@ -15,7 +17,7 @@ IsNamed types v found = (e : EntryNo) × (entry_named types v ≡ Some e) × (fo
 
 -- the types that were found are those of a value
 abbrev pub IsTyped : Value → Found → Type 0
-IsTyped v found = found.types ≡ Ok (gathered (entries v))
+IsTyped v found = (g : Gathered) × (gathered_shown g ≡ gathered (entries v)) × (found.types ≡ Ok g)
 
 -- what is found with one part more
 pub record IsNext (types : Fields) (old new : Found) (k : List ℕ) (v : Value) : Type 0 where
@@ -32,5 +34,5 @@ pub record IsFound (types parts : Fields) (found : Found) : Type 0 where
 -- the form of these parts
 pub record IsMadeOf (found : Found) (form : SchemaForm) : Type 0 where
   pub root : found.root ≡ Ok form.root
-  pub types : found.types ≡ Ok (record { entries = form.entries; expressions = form.expressions; models = form.models })
+  pub types : found.types ≡ Ok (record { entries = form.entries; expressions = form.expressions; models = form.models; behaviours = form.behaviours; astray = form.astray })
   pub history : form.history ≡ found.history

@@ -37,6 +37,10 @@ entry_path name = codes "types" ∷ name ∷ []
 abbrev pub property_path : List ℕ → Path
 property_path name = codes "model" ∷ codes "properties" ∷ name ∷ []
 
+-- and those that lead from a model to the type of a parameter of an action
+abbrev pub param_path : List ℕ → ℕ → Path
+param_path action j = codes "model" ∷ codes "actions" ∷ action ∷ codes "params" ∷ decimal j ∷ codes "1" ∷ []
+
 -- the places of expressions
 abbrev pub places_of : List Expression → List Place
 places_of expressions = map (λ e. e.place) expressions
@@ -48,6 +52,9 @@ pub data IsPointer (entries : List Entry) (models : List ModelForm) (places : Li
   property : (t : ℕ) (m : ModelNo) (i : ℕ) (model : ModelForm) (p : Property) → slice_get places t ≡ Some (place.Property m i)
       → slice_get models m.0 ≡ Some model → slice_get model.properties i ≡ Some p
       → IsPointer entries models places t (entry_path model.name ++ property_path p.name)
+  param : (t : ℕ) (m : ModelNo) (i j : ℕ) (model : ModelForm) (action : List ℕ) → slice_get places t ≡ Some (place.Param m i j)
+      → slice_get models m.0 ≡ Some model → slice_get model.actions i ≡ Some action
+      → IsPointer entries models places t (entry_path model.name ++ param_path action j)
   part : (t : ℕ) (u : TypeNo) (step : Step) (path : Path) → slice_get places t ≡ Some (place.Part u step)
       → IsPointer entries models places u.0 path → IsPointer entries models places t (path ++ step_path step)
 
@@ -56,10 +63,16 @@ abbrev pub HasProperty : Option ModelForm → ℕ → Type 0
 HasProperty (Some model) i = i < length model.properties
 HasProperty None i = ⊥
 
+-- there is an action of this index
+abbrev pub HasAction : Option ModelForm → ℕ → Type 0
+HasAction (Some model) i = i < length model.actions
+HasAction None i = ⊥
+
 -- an expression of number n stands in an entry or in a model, or in an expression before it
 abbrev pub IsPlaceAmong : List Entry → List ModelForm → ℕ → Place → Type 0
 IsPlaceAmong entries models n (place.Entry e) = e.0 < length entries
 IsPlaceAmong entries models n (place.Property m i) = HasProperty (slice_get models m.0) i
+IsPlaceAmong entries models n (place.Param m i j) = HasAction (slice_get models m.0) i
 IsPlaceAmong entries models n (place.Part u step) = u.0 < n
 
 abbrev pub ArePlaces : List Entry → List ModelForm → List Place → Type 0

@@ -1,7 +1,7 @@
 -- Which value of a schema file each type expression of its form is read from, one form of expression a row.
 use Rattle.std.specs.Prelude.{◌≡◌, ℕ, List, [], ◌∷◌, map, codes, slice_get, Option, Some, None}
 use Rattle.std.specs.Option.{option_map}
-use Rattle.snap_core.specs.Value.{Value, integer, text, list, dict, no_parts, part, no_members, member, Items, Fields}
+use Rattle.snap_core.specs.Value.{Value, integer, text, list, dict, no_parts, part, no_members, member, value_at, Items, Fields}
 use Rattle.snap_core.specs.View.{view}
 use Rattle.snap_core.specs.declared.snap.Snap.{Snap}
 use Rattle.snap_core.specs.declared.number.TypeNo.{TypeNo}
@@ -94,10 +94,10 @@ mutual
         → name_at form e ≡ Some s → IsReadFrom form t (keyed (codes "reference") (text s))
     safe_reference : (t : ℕ) (e : EntryNo) (s : List ℕ) → kind_at form t ≡ Some (kind.SafeReference e)
         → name_at form e ≡ Some s → IsReadFrom form t (keyed (codes "safeReference") (text s))
-    -- a model, with a field for each property
-    model : (t : ℕ) (m : ModelNo) (its : ModelForm) (fields : Fields) → kind_at form t ≡ Some (kind.Model m)
-        → slice_get form.models m.0 ≡ Some its → AreReadUnder form its.properties fields
-        → IsReadFrom form t (keyed (codes "model") (keyed (codes "properties") (dict tt fields)))
+    -- a model, with a field for each property; other parts may stand beside them
+    model : (t : ℕ) (m : ModelNo) (its : ModelForm) (parts fields : Fields) → kind_at form t ≡ Some (kind.Model m)
+        → slice_get form.models m.0 ≡ Some its → value_at (codes "properties") parts ≡ Some (dict tt fields)
+        → AreReadUnder form its.properties fields → IsReadFrom form t (keyed (codes "model") (dict tt parts))
 
   -- the type expressions of a union's members are read from these items
   pub data AreReadFrom (form : SchemaForm) : List TypeNo → Items → Type 0 where

@@ -1,6 +1,6 @@
-//! What may be refined: texts and integers, under their own words or by names that lead to them.
+//! What may be refined, and what no parameter may be, under words of their own or by names that lead to them.
 ghost use Rattle.std.specs.Prelude.{◌≡◌, length, map, All, IfOk};
-ghost use Rattle.snap_core.specs.Value.{AreKeyed};
+ghost use Rattle.snap_core.specs.Value.{AreKeyed, dict};
 ghost use Rattle.snap_core.specs.View.{view, fields_view};
 ghost use Rattle.schema_form.specs.Names as names;
 ghost use Rattle.schema_form.specs.Bases as specs;
@@ -11,17 +11,19 @@ use crate::names::word_of;
 use snap_core::{Field, Snap};
 use std::alloc::{AllocError, Global};
 
-/// The kinds that may be refined.
+/// The kinds that may be refined, and those that no parameter may be of.
 #[derive(Clone, Copy)]
 pub enum Base {
     Texts,
     Integers,
+    /// Identifiers and safe references.
+    Barred,
 }
 
 /// What is known of the base of an entry.
 #[derive(Clone, Copy)]
 pub enum Link {
-    /// The base; none where the entry leads to a type that isn't refined.
+    /// The base; none where the entry leads to a type that has none.
     Known(Option<Base>),
     /// It is the base of the entry at this index.
     SameAs(usize),
@@ -34,7 +36,58 @@ fn plain_base(plain: Plain) -> Option<Base>
     match plain {
         Plain::Text => Some(Base::Texts),
         Plain::Integer => Some(Base::Integers),
+        Plain::Identifier => Some(Base::Barred),
         _ => None,
+    }
+}
+
+/// The base of a type that may be refined.
+pub fn refinable(base: Option<Base>) -> Option<Base>
+    ensures { result ≡ names.refinable base }
+{
+    match base {
+        Some(Base::Texts) => Some(Base::Texts),
+        Some(Base::Integers) => Some(Base::Integers),
+        Some(Base::Barred) | None => None,
+    }
+}
+
+/// The base of an object: a safe reference has one.
+fn keyed_base(fields: &[Field]) -> Option<Base>
+    ensures { result ≡ names.keyed_base (dict tt (fields_view fields.now)) }
+{
+    if fields.len() != 1 {
+        return None;
+    }
+    let field = &fields[0];
+    if field.key.text() == "safeReference" {
+        Some(Base::Barred)
+    } else {
+        None
+    }
+}
+
+/// The base of a type expression, where those of the entries are known.
+pub fn type_base(types: &[Field], bases: &[Option<Base>], value: &Snap) -> Option<Base>
+    requires keyed { AreKeyed (fields_view types.now) }
+    requires bases { AreBases types.now bases.now }
+    ensures { result ≡ names.type_base (fields_view types.now) (view value.now) }
+{
+    match value {
+        Snap::Text(word) => text_base(types, bases, word.text()),
+        Snap::Dict(fields) => keyed_base(fields.as_slice()),
+        _ => None,
+    }
+}
+
+fn text_base(types: &[Field], bases: &[Option<Base>], text: &str) -> Option<Base>
+    requires keyed { AreKeyed (fields_view types.now) }
+    requires bases { AreBases types.now bases.now }
+    ensures { result ≡ names.base_of (fields_view types.now) text.now }
+{
+    match word_of(types, text) {
+        Some(word) => base_of(bases, word),
+        None => None,
     }
 }
 
@@ -103,6 +156,7 @@ fn first_link(types: &[Field], value: &Snap) -> Link
 {
     match value {
         Snap::Text(word) => word_link(word_of(types, word.text())),
+        Snap::Dict(fields) => Link::Known(keyed_base(fields.as_slice())),
         _ => Link::Known(None),
     }
 }

@@ -1,12 +1,5 @@
-use pointer_core::{Pointer, SchemaRule};
+use expr_form::Fault;
 use std::alloc::AllocError;
-
-/// A rule of schemas that isn't met, and the place in the file where.
-#[derive(Debug, Drop)]
-pub struct Fault {
-    pub path: Pointer,
-    pub rule: SchemaRule,
-}
 
 /// Why a schema file has no form.
 #[derive(Debug, Drop, thiserror::Error)]

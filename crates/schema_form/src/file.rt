@@ -13,9 +13,10 @@ use crate::entries::{Gathered, read_types};
 use crate::fault::FormError;
 use crate::form::{EntryNo, SchemaForm};
 use crate::leaves::read_target;
+use crate::objects::{entries_under, has_key};
 use crate::walk::{require, under, wrong};
 use pointer_core::SchemaRule;
-use snap_core::{Field, Snap, find, is_whole};
+use snap_core::{Field, Snap, is_whole};
 use std::alloc::Global;
 
 /// Reads a schema file, as it was read loosely, into its form, or names its first fault: in form,
@@ -51,7 +52,7 @@ fn read_object(alloc: Global, parts: &[Field]) -> Result<SchemaForm, FormError>
     if !has_parts(parts) {
         return Err(wrong(alloc, SchemaRule::Shape));
     }
-    let found = read_parts(alloc, parts, types_in(parts))?;
+    let found = read_parts(alloc, parts, entries_under(parts, "types"))?;
     form_of(found)
 }
 
@@ -70,11 +71,15 @@ fn form_of(found: Found) -> Result<SchemaForm, FormError>
         entries,
         expressions,
         models,
+        behaviours,
+        astray,
     } = types?;
     Ok(SchemaForm {
         entries,
         expressions,
         models,
+        behaviours,
+        astray,
         root,
         history,
     })
@@ -88,36 +93,6 @@ fn has_parts(parts: &[Field]) -> bool
         && names.has_key (codes "types") (fields_view parts.now)) }
 {
     has_key(parts, "host") && has_key(parts, "root") && has_key(parts, "types")
-}
-
-fn has_key(parts: &[Field], key: &str) -> bool
-    requires { AreKeyed (fields_view parts.now) }
-    ensures { result ≡ names.has_key key.now (fields_view parts.now) }
-{
-    find(parts, key).is_some()
-}
-
-/// The entries of an object; none of any other value.
-fn entries_of(value: &Snap) -> &[Field]
-    ensures { fields_view result.now ≡ faults.entries (view value.now) }
-{
-    match value {
-        Snap::Dict(fields) => fields.as_slice(),
-        _ => &[],
-    }
-}
-
-/// The types of a file; none where there are none.
-#[tactic(auto, using(crate::proofs::Orders::keyed_by_order))]
-fn types_in(parts: &[Field]) -> &[Field]
-    requires { AreOrderedMembers (fields_view parts.now) }
-    ensures types { fields_view result.now ≡ faults.types_of (dict tt (fields_view parts.now)) }
-    ensures keyed { AreKeyed (fields_view result.now) }
-{
-    match find(parts, "types") {
-        Some(types) => entries_of(types),
-        None => &[],
-    }
 }
 
 fn read_parts(alloc: Global, parts: &[Field], types: &[Field]) -> Result<Found, FormError>

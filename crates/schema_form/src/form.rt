@@ -1,5 +1,7 @@
 //! What a schema file without a fault in form says.
 use list_core::Parts;
+use model_syntax::Behaviour;
+use pointer_core::Pointer;
 use snap_core::{ModelNo, Name, Snap, TypeNo};
 use type_table::{Conditions, Members, Properties, Texts};
 
@@ -17,6 +19,10 @@ pub struct SchemaForm {
     pub expressions: Expressions,
     /// The entries that are models, in the order of the entries.
     pub models: Parts<ModelForm>,
+    /// What each of them has beside its properties. What goes astray is left out.
+    pub behaviours: Parts<Behaviour>,
+    /// The first expression of the file that leads to no model that it may name.
+    pub astray: Option<Astray>,
     /// The entry that the root names.
     pub root: EntryNo,
     /// How many changes a document's history keeps.
@@ -30,11 +36,23 @@ pub struct Entry {
     pub of: TypeNo,
 }
 
-/// A model: its name, and its properties with the numbers of their type expressions.
+/// A model: its name, its properties with the numbers of their type expressions, and the names of its actions.
 #[derive(Debug, Drop)]
 pub struct ModelForm {
     pub name: Name,
     pub properties: Properties,
+    pub actions: Parts<Name>,
+}
+
+/// Where an expression leads to no model that it may name.
+#[derive(Debug, Drop)]
+pub struct Astray {
+    /// How many type expressions stand before it in the file.
+    pub before: TypeNo,
+    /// The model that it stands in.
+    pub model: ModelNo,
+    /// The way to it from that model.
+    pub path: Pointer,
 }
 
 pub type Expressions = Parts<Expression>;
@@ -53,6 +71,8 @@ pub enum Place {
     Entry(EntryNo),
     /// As the property of a model at this index.
     Property(ModelNo, usize),
+    /// As that of a parameter: of a model's action at the first index, the parameter at the second.
+    Param(ModelNo, usize, usize),
     /// Inside the type expression of this number.
     Part(TypeNo, Step),
 }

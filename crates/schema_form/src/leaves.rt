@@ -14,14 +14,15 @@ ghost use Rattle.schema_form.specs.declared.words.Leaf.TheVariants as leaves;
 ghost use Rattle.schema_form.specs.declared.form.Kind.{Kind};
 ghost use Rattle.schema_form.specs.declared.form.Kind.TheVariants as kind;
 
-use crate::bases::{Base, base_of};
+use crate::bases::{Base, base_of, refinable};
 use crate::enumerations::{read_texts, text_in};
 use crate::fault::FormError;
 use crate::form::{EntryNo, Expression, Expressions, Kind, Place, Step, Word};
+use crate::keys::is_expression;
 use crate::names::{entry_of, word_of};
 use crate::numbers::read_literal;
 use crate::refinements::read_conditions;
-use crate::walk::{under, wrong};
+use crate::walk::{require, under, wrong};
 use crate::words::Leaf;
 use pointer_core::SchemaRule;
 use snap_core::{Field, Snap, TypeNo};
@@ -153,6 +154,20 @@ pub fn known_word(alloc: Global, types: &[Field], text: &str) -> Result<Word, Fo
     }
 }
 
+/// Refuses what is wrong at the own place of a type expression.
+pub fn check_own(alloc: Global, types: &[Field], value: &Snap) -> Result<(), FormError>
+    requires { AreKeyed (fields_view types.now) }
+    ensures { Finds result (faults.own_faults (fields_view types.now) (view value.now)) }
+{
+    match value {
+        Snap::Text(word) => {
+            known_word(alloc, types, word.text())?;
+            Ok(())
+        }
+        _ => require(alloc, is_expression(value), SchemaRule::Shape),
+    }
+}
+
 /// The word that is the base of a refinement, and the base that it is.
 #[derive(Clone, Copy)]
 pub struct Based {
@@ -191,7 +206,7 @@ fn read_base_word(
     ensures base { IfOk result (λ based. names.base_of (fields_view types.now) word.now ≡ Some based.base) }
 {
     let word = known_word(alloc, types, word)?;
-    match base_of(bases, word) {
+    match refinable(base_of(bases, word)) {
         Some(base) => Ok(Based { word, base }),
         None => Err(wrong(alloc, SchemaRule::Shape)),
     }

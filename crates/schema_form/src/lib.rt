@@ -19,6 +19,7 @@
 //! (`entries_are_types`).
 #![tactic(auto)]
 
+mod actions;
 mod bases;
 mod entries;
 mod enumerations;
@@ -32,16 +33,22 @@ mod leaves;
 mod models;
 mod names;
 mod numbers;
+mod objects;
+mod params;
 mod pointer;
+mod properties;
 mod refinements;
+mod setting;
+mod targets;
 mod walk;
 mod words;
 
-pub use fault::{Fault, FormError};
+pub use expr_form::Fault;
+pub use fault::FormError;
 pub use file::read_form;
 pub use form::{
-    Entry, EntryNo, Expression, Expressions, Holder, Kind, ModelForm, Place, Plain, SchemaForm,
-    Step, Word,
+    Astray, Entry, EntryNo, Expression, Expressions, Holder, Kind, ModelForm, Place, Plain,
+    SchemaForm, Step, Word,
 };
 pub use laws::{entries_are_types, pointers_lead};
 pub use pointer::{Laid, pointer_to, taken_apart};

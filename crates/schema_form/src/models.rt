@@ -1,29 +1,39 @@
-//! Models: properties under names.
-ghost use Rattle.std.specs.Prelude.{◌≡◌, ◌++◌, length, codes, IfOk, OnOk};
+//! Models, part by part.
+ghost use Rattle.std.specs.Prelude.{◌≡◌, [], IfOk, OnOk, Some};
 ghost use Rattle.std.specs.Option.{option_copied, option_map};
-ghost use Rattle.std.specs.Str.{bytes_eq};
-ghost use Rattle.snap_core.specs.Value.{AreKeyed, IsOrdered, AreOrderedMembers, dict};
+ghost use Rattle.snap_core.specs.Value.{AreKeyed, IsOrdered, dict};
 ghost use Rattle.snap_core.specs.View.{view, fields_view};
+ghost use Rattle.behaviour_form.specs.Middleware.{middleware_read};
+ghost use Rattle.behaviour_form.specs.Named.{is_taken};
+ghost use Rattle.behaviour_form.specs.Views.{views_read};
 ghost use Rattle.schema_form.specs.Bases.{AreBases};
+ghost use Rattle.schema_form.specs.Entries as entries;
 ghost use Rattle.schema_form.specs.Faults as faults;
-ghost use Rattle.schema_form.specs.Layout as layout;
-ghost use Rattle.schema_form.specs.Names as names;
+ghost use Rattle.schema_form.specs.Modelled as modelled;
 ghost use Rattle.schema_form.specs.Outcome.{Finds};
+ghost use Rattle.schema_form.specs.Setting.{IsSetting, within};
+ghost use Rattle.schema_form.specs.SoFar.{so_far};
+ghost use Rattle.schema_form.specs.Targets.{lookup, targets_from};
 
 use crate::bases::Base;
-use crate::expressions::read_type;
 use crate::fault::FormError;
-use crate::form::{Expressions, Place};
-use crate::keys::{is_expression, read_name};
-use crate::walk::{under, wrong};
+use crate::form::{Astray, Expressions};
+use crate::objects::has_key;
+use crate::properties::read_properties;
+use crate::setting::Setting;
+use crate::walk::{told, under, wrong};
+use behaviour_form::{read_middleware, read_views};
+use expr_form::Target;
 use list_core::Parts;
-use pointer_core::SchemaRule;
-use snap_core::{Field, ModelNo, Snap, TypeNo, find};
-use type_table::{Properties, Property};
+use model_syntax::Behaviour;
+use pointer_core::{Pointer, SchemaRule};
+use snap_core::{Field, ModelNo, Snap, TypeNo};
+use std::alloc::Global;
+use type_table::Properties;
 
 /// What stands under `model` in an entry of the types that is a model: an object with this one key.
 pub fn model_in(value: &Snap) -> Option<&Snap>
-    ensures { option_map view (option_copied result) ≡ faults.model_in (view value.now) }
+    ensures { option_map view (option_copied result) ≡ entries.model_in (view value.now) }
 {
     match value {
         Snap::Dict(fields) => model_among(fields.as_slice()),
@@ -32,7 +42,7 @@ pub fn model_in(value: &Snap) -> Option<&Snap>
 }
 
 fn model_among(fields: &[Field]) -> Option<&Snap>
-    ensures { option_map view (option_copied result) ≡ faults.model_in (dict tt (fields_view fields.now)) }
+    ensures { option_map view (option_copied result) ≡ entries.model_in (dict tt (fields_view fields.now)) }
 {
     if fields.len() != 1 {
         return None;
@@ -45,150 +55,180 @@ fn model_among(fields: &[Field]) -> Option<&Snap>
     }
 }
 
-/// Adds the type expressions of a model's properties, or names the model's first fault. Gives the
-/// properties.
+/// The first of two expressions that go astray.
+pub fn earlier(first: Option<Astray>, second: Option<Astray>) -> Option<Astray>
+    ensures { result ≡ modelled.earlier first second }
+{
+    match first {
+        Some(first) => Some(first),
+        None => second,
+    }
+}
+
+/// A model while its parts are read: what they say so far.
+#[derive(Debug, Drop)]
+pub struct Modelling {
+    pub properties: Properties,
+    pub behaviour: Behaviour,
+    pub astray: Option<Astray>,
+}
+
+/// Reads the model of a number and adds the type expressions in it, or names its first fault.
 pub fn read_model(
     types: &[Field],
     bases: &[Option<Base>],
+    targets: &[Target],
     value: &Snap,
     model: ModelNo,
     expressions: &mut Expressions,
-) -> Result<Properties, FormError>
+) -> Result<Modelling, FormError>
     requires keyed { AreKeyed (fields_view types.now) }
     requires bases { AreBases types.now bases.now }
+    requires targets { targets.now ≡ targets_from 0 (fields_view types.now) }
     requires ordered { IsOrdered (view value.now) }
     ensures finds { Finds result (faults.model_faults (fields_view types.now) (view value.now)) }
-    ensures laid { OnOk result (expressions.new ≡ expressions.old
-        ++ layout.properties_laid (fields_view types.now) model 0 (layout.properties_in (view value.now)) (length expressions.old)) }
-    ensures properties { IfOk result (λ ps. ps
-        ≡ layout.properties_of (fields_view types.now) model 0 (layout.properties_in (view value.now)) (length expressions.old)) }
+    ensures ok { let parts = entries.entries (view value.now) in IfOk result (λ said. so_far expressions.new said
+        ≡ modelled.with_parts (record { types = fields_view types.now; parts = parts; model = model }) (modelled.unsaid expressions.old) parts) }
 {
     match value {
-        Snap::Dict(parts) => read_parts(types, bases, parts.as_slice(), model, expressions),
+        Snap::Dict(parts) => {
+            let parts = parts.as_slice();
+            let by = Setting {
+                types,
+                bases,
+                targets,
+                parts,
+                model,
+            };
+            read_parts(&by, expressions)
+        }
         _ => Err(wrong(expressions.allocator(), SchemaRule::Shape)),
     }
 }
 
-fn has_properties(parts: &[Field]) -> bool
-    requires { AreKeyed (fields_view parts.now) }
-    ensures { result ≡ names.has_key (codes "properties") (fields_view parts.now) }
+fn read_parts(by: &Setting, expressions: &mut Expressions) -> Result<Modelling, FormError>
+    requires { IsSetting by.now }
+    ensures finds { Finds result (faults.model_faults (fields_view by.now.types.now) (dict tt (fields_view by.now.parts.now))) }
+    ensures ok { IfOk result (λ said. so_far expressions.new said
+        ≡ modelled.with_parts (within by.now) (modelled.unsaid expressions.old) (fields_view by.now.parts.now)) }
 {
-    find(parts, "properties").is_some()
-}
-
-fn is_properties(part: &Field) -> bool
-    ensures { result ≡ bytes_eq part.now.key (codes "properties") }
-{
-    part.key.text() == "properties"
-}
-
-/// The parts of a model. Only properties are built so far, so they are the one part.
-fn read_parts(
-    types: &[Field],
-    bases: &[Option<Base>],
-    parts: &[Field],
-    model: ModelNo,
-    expressions: &mut Expressions,
-) -> Result<Properties, FormError>
-    requires keyed { AreKeyed (fields_view types.now) }
-    requires bases { AreBases types.now bases.now }
-    requires ordered { AreOrderedMembers (fields_view parts.now) }
-    ensures finds { Finds result (faults.model_faults (fields_view types.now) (dict tt (fields_view parts.now))) }
-    ensures laid { OnOk result (expressions.new ≡ expressions.old
-        ++ layout.properties_laid (fields_view types.now) model 0
-        (layout.properties_in (dict tt (fields_view parts.now))) (length expressions.old)) }
-    ensures properties { IfOk result (λ ps. ps
-        ≡ layout.properties_of (fields_view types.now) model 0
-        (layout.properties_in (dict tt (fields_view parts.now))) (length expressions.old)) }
-{
-    if !has_properties(parts) {
-        return Err(wrong(expressions.allocator(), SchemaRule::Shape));
+    let alloc = expressions.allocator();
+    if !has_key(by.parts, "properties") {
+        return Err(wrong(alloc, SchemaRule::Shape));
     }
-    let first = &parts[0];
-    if !is_properties(first) {
-        return unknown_part(first, expressions);
+    let mut said = Modelling::new(alloc);
+    for part in by.parts {
+        let read = said.read_part(by, part, expressions);
+        under(part.key.text(), read)?;
     }
-    let inner = read_properties(types, bases, &first.value, model, expressions);
-    let properties = under("properties", inner)?;
-    if parts.len() != 1 {
-        return unknown_part(&parts[1], expressions);
-    }
-    Ok(properties)
+    Ok(said)
 }
 
-/// Refuses a part that isn't built.
-fn unknown_part(part: &Field, expressions: &Expressions) -> Result<Properties, FormError>
-    ensures { Finds result (faults.under part.now.key (faults.here SchemaRule.Shape)) }
-{
-    let fault = wrong(expressions.allocator(), SchemaRule::Shape);
-    under(part.key.text(), Err(fault))
-}
-
-fn read_properties(
-    types: &[Field],
-    bases: &[Option<Base>],
-    value: &Snap,
-    model: ModelNo,
-    expressions: &mut Expressions,
-) -> Result<Properties, FormError>
-    requires keyed { AreKeyed (fields_view types.now) }
-    requires bases { AreBases types.now bases.now }
-    ensures finds { Finds result (faults.properties_faults (fields_view types.now) (view value.now)) }
-    ensures laid { OnOk result (expressions.new ≡ expressions.old
-        ++ layout.properties_laid (fields_view types.now) model 0 (faults.entries (view value.now)) (length expressions.old)) }
-    ensures properties { IfOk result (λ ps. ps
-        ≡ layout.properties_of (fields_view types.now) model 0 (faults.entries (view value.now)) (length expressions.old)) }
-{
-    match value {
-        Snap::Dict(fields) => read_each(types, bases, fields.as_slice(), model, expressions),
-        _ => Err(wrong(expressions.allocator(), SchemaRule::Shape)),
+impl Modelling {
+    fn new(alloc: Global) -> Modelling
+        ensures { so_far [] result ≡ modelled.unsaid [] }
+    {
+        let behaviour = Behaviour {
+            views: Parts::new(alloc),
+            actions: Parts::new(alloc),
+            middleware: Parts::new(alloc),
+        };
+        Modelling {
+            properties: Parts::new(alloc),
+            behaviour,
+            astray: None,
+        }
     }
-}
 
-fn read_each(
-    types: &[Field],
-    bases: &[Option<Base>],
-    fields: &[Field],
-    model: ModelNo,
-    expressions: &mut Expressions,
-) -> Result<Properties, FormError>
-    requires keyed { AreKeyed (fields_view types.now) }
-    requires bases { AreBases types.now bases.now }
-    ensures finds { Finds result
-        (faults.member_faults (faults.property_faults (fields_view types.now)) (fields_view fields.now)) }
-    ensures laid { OnOk result (expressions.new ≡ expressions.old
-        ++ layout.properties_laid (fields_view types.now) model 0 (fields_view fields.now) (length expressions.old)) }
-    ensures properties { IfOk result (λ ps. ps
-        ≡ layout.properties_of (fields_view types.now) model 0 (fields_view fields.now) (length expressions.old)) }
-{
-    let mut properties = Parts::new(expressions.allocator());
-    for (index, field) in fields.iter().enumerate() {
-        let place = Place::Property(model, index);
-        let property = read_property(types, bases, field, place, expressions);
-        properties.push(under(field.key.text(), property)?)?;
+    /// Adds what a part says, or names its first fault.
+    fn read_part(
+        &mut self,
+        by: &Setting,
+        part: &Field,
+        expressions: &mut Expressions,
+    ) -> Result<(), FormError>
+        requires setting { IsSetting by.now }
+        requires ordered { IsOrdered (view part.now.value) }
+        ensures finds { Finds result
+            (faults.model_part_faults (fields_view by.now.types.now) (fields_view by.now.parts.now) part.now.key (view part.now.value)) }
+        ensures ok { OnOk result (so_far expressions.new self.new
+            ≡ modelled.with_part (within by.now) (so_far expressions.old self.old) part.now.key (view part.now.value)) }
+    {
+        let value = &part.value;
+        match part.key.text() {
+            "actions" => self.read_actions(by, value, expressions),
+            "middleware" => self.read_middleware(by, value, expressions),
+            "properties" => {
+                self.properties = read_properties(by, value, expressions)?;
+                Ok(())
+            }
+            "views" => self.read_views(by, value, expressions),
+            _ => Err(wrong(expressions.allocator(), SchemaRule::Shape)),
+        }
     }
-    Ok(properties)
-}
 
-fn read_property(
-    types: &[Field],
-    bases: &[Option<Base>],
-    field: &Field,
-    place: Place,
-    expressions: &mut Expressions,
-) -> Result<Property, FormError>
-    requires keyed { AreKeyed (fields_view types.now) }
-    requires bases { AreBases types.now bases.now }
-    ensures finds { Finds result
-        (faults.property_faults (fields_view types.now) field.now.key (view field.now.value)) }
-    ensures laid { OnOk result (expressions.new ≡ expressions.old
-        ++ layout.type_laid (fields_view types.now) (view field.now.value) (length expressions.old) place) }
-    ensures property { IfOk result
-        (λ p. p ≡ record { name = field.now.key; of = layout.type_no (length expressions.old) }) }
-{
-    let is_formed = is_expression(&field.value);
-    let name = read_name(expressions.allocator(), field.key.text(), is_formed)?;
-    let of = TypeNo(expressions.len());
-    read_type(&field.value, types, bases, place, expressions)?;
-    Ok(Property { name, of })
+    fn read_middleware(
+        &mut self,
+        by: &Setting,
+        value: &Snap,
+        expressions: &Expressions,
+    ) -> Result<(), FormError>
+        requires { IsSetting by.now }
+        ensures finds { Finds result (faults.told (middleware_read (lookup (fields_view by.now.types.now)) (view value.now))) }
+        ensures ok { OnOk result (so_far expressions.now self.new ≡ modelled.with_middleware (within by.now)
+            (so_far expressions.now self.old) (middleware_read (lookup (fields_view by.now.types.now)) (view value.now))) }
+    {
+        let alloc = expressions.allocator();
+        match told(read_middleware(alloc, value, by.types, by.targets))? {
+            Ok(middleware) => {
+                self.behaviour.middleware = middleware;
+                Ok(())
+            }
+            Err(path) => {
+                let before = TypeNo(expressions.as_slice().len());
+                self.stray(before, by.model, path.under("middleware")?);
+                Ok(())
+            }
+        }
+    }
+
+    fn read_views(
+        &mut self,
+        by: &Setting,
+        value: &Snap,
+        expressions: &Expressions,
+    ) -> Result<(), FormError>
+        requires { IsSetting by.now }
+        ensures finds { Finds result (faults.told
+            (views_read (lookup (fields_view by.now.types.now)) (is_taken (fields_view by.now.parts.now)) (view value.now))) }
+        ensures ok { OnOk result (so_far expressions.now self.new ≡ modelled.with_views (within by.now) (so_far expressions.now self.old)
+            (views_read (lookup (fields_view by.now.types.now)) (is_taken (fields_view by.now.parts.now)) (view value.now))) }
+    {
+        let alloc = expressions.allocator();
+        match told(read_views(alloc, value, by.parts, by.types, by.targets))? {
+            Ok(views) => {
+                self.behaviour.views = views;
+                Ok(())
+            }
+            Err(path) => {
+                let before = TypeNo(expressions.as_slice().len());
+                self.stray(before, by.model, path.under("views")?);
+                Ok(())
+            }
+        }
+    }
+
+    /// Notes where an expression goes astray, unless an earlier one does.
+    pub fn stray(&mut self, before: TypeNo, model: ModelNo, path: Pointer)
+        ensures { self.new ≡ record self.old {
+          astray = modelled.earlier self.old.astray (Some (record { before = before; model = model; path = path }));
+        } }
+    {
+        let here = Astray {
+            before,
+            model,
+            path,
+        };
+        self.astray = earlier(self.astray.take(), Some(here));
+    }
 }

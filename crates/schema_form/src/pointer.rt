@@ -1,5 +1,5 @@
 //! Where the type expressions of a form stand in the file.
-ghost use Rattle.std.specs.Prelude.{◌≡◌, ◌<◌, ◌++◌, length, map, slice_get, Some, IfOk};
+ghost use Rattle.std.specs.Prelude.{◌≡◌, ℕ, ◌<◌, List, ◌++◌, length, map, slice_get, Some, IfOk};
 ghost use Rattle.type_table.specs.declared.shape.Property.{Property};
 ghost use Rattle.schema_form.specs.Pointers as pointers;
 
@@ -50,6 +50,9 @@ pub fn pointer_to(
             Place::Property(model, index) => {
                 return property_pointer(path, model_at(models, model), index);
             }
+            Place::Param(model, action, index) => {
+                return param_pointer(path, model_at(models, model), action, index);
+            }
             Place::Part(whole, step) => {
                 path = lowered(path, step)?;
                 at = whole;
@@ -94,6 +97,24 @@ fn property_pointer(path: Pointer, model: &ModelForm, index: usize) -> Result<Po
 {
     let property = &model.properties.as_slice()[index];
     let path = path.under(property.name.text())?.under("properties")?;
+    entry_pointer(path.under("model")?, &model.name)
+}
+
+/// The pointer as it reads from the file, where its root is the type of a parameter: of a model's action at an index, the
+/// parameter at another one.
+fn param_pointer(
+    path: Pointer,
+    model: &ModelForm,
+    action: usize,
+    index: usize,
+) -> Result<Pointer, AllocError>
+    requires { action < length model.now.actions }
+    ensures { IfOk result (λ longer. (name : List ℕ) → slice_get model.now.actions action ≡ Some name
+        → longer ≡ pointers.entry_path model.now.name ++ pointers.param_path name index ++ path) }
+{
+    let action = &model.actions.as_slice()[action];
+    let path = path.under("1")?.under_index(index)?.under("params")?;
+    let path = path.under(action.text())?.under("actions")?;
     entry_pointer(path.under("model")?, &model.name)
 }
 

@@ -1,11 +1,13 @@
 //! The first fault of a part, seen from the place itself or from one step above it.
 ghost use Rattle.std.specs.Prelude.{◌≡◌, [], Ok, IfOk, decimal, List};
-ghost use Rattle.schema_form.specs.declared.fault.Fault.{Fault as FaultSpec};
+ghost use Rattle.expr_form.specs.declared.fault.Fault.{Fault as FaultSpec};
 ghost use Rattle.schema_form.specs.declared.fault.FormError.TheVariants as error;
 ghost use Rattle.schema_form.specs.Faults as faults;
 ghost use Rattle.schema_form.specs.Outcome.{Finds};
+ghost use Rattle.schema_form.specs.Told.{IsTold};
 
-use crate::fault::{Fault, FormError};
+use crate::fault::FormError;
+use expr_form::{Fault, Trouble};
 use pointer_core::{Pointer, SchemaRule};
 use std::alloc::Global;
 
@@ -55,5 +57,17 @@ pub fn at_index<T>(index: usize, inner: Result<T, FormError>) -> Result<T, FormE
             Err(FormError::Wrong(Fault { path, rule }))
         }
         other => other,
+    }
+}
+
+/// What a part is read as by itself, or the place of the first expression in it that goes astray.
+pub fn told<T>(read: Result<T, Trouble>) -> Result<Result<T, Pointer>, FormError>
+    ensures { IsTold read result }
+{
+    match read {
+        Ok(value) => Ok(Ok(value)),
+        Err(Trouble::Astray(path)) => Ok(Err(path)),
+        Err(Trouble::Wrong(fault)) => Err(FormError::Wrong(fault)),
+        Err(Trouble::Memory) => Err(FormError::Memory),
     }
 }

@@ -4,4 +4,5 @@ pub mod Growing
 pub mod LawLemmas
 pub mod Refusals
 pub mod Single
+pub mod Straying
 pub mod Whole

@@ -1,5 +1,5 @@
 -- What is one at most: the form of a file, the pointer of an expression, and the first fault of a table.
-use Rattle.std.proofs.Common.{◌≡◌, inl, inr, ℕ, zero, suc, ◌<◌, List, ◌++◌, slice_get, Some, refl, sym, ◌∙◌, ap, subst, arith}
+use Rattle.std.proofs.Common.{◌≡◌, inl, inr, ℕ, zero, suc, ◌<◌, List, ◌++◌, map, slice_get, Some, refl, sym, ◌∙◌, ap, subst, arith}
 use Rattle.std.specs.Prelude.{pos}
 use Rattle.std.proofs.lemmas.Bool.{cases_lt}
 use Rattle.std.proofs.lemmas.Option.{same_Some}
@@ -19,33 +19,43 @@ use Rattle.schema_form.specs.declared.form.Expression.{Expression}
 use Rattle.schema_form.specs.declared.form.ModelForm.{ModelForm}
 use Rattle.schema_form.specs.declared.form.Place.{Place}
 use Rattle.schema_form.specs.declared.form.Place.TheVariants as place
-use Rattle.schema_form.specs.declared.entries.Gathered.{Gathered}
-use Rattle.schema_form.specs.Pointers.{IsPointer, entry, property, part, entry_path, step_path, property_path}
+use Rattle.schema_form.specs.Gathering.{Gathering, form_shown}
+use Rattle.model_syntax.specs.declared.behaviour.Behaviour.{Behaviour}
+use Rattle.model_syntax.specs.Shown.{behaviour_shown}
+use Rattle.schema_form.specs.Pointers.{IsPointer, entry, property, param, part, entry_path, step_path, property_path, param_path}
 use Rattle.schema_form.specs.Form.{IsForm}
 
-abbrev form_of : List Entry → List Expression → List ModelForm → EntryNo → ℕ → SchemaForm
-form_of entries expressions models root history = record { entries = entries; expressions = expressions; models = models; root = root; history = history }
+-- a form with other expressions and statements, which stand for what they show
+abbrev pub with_behaviours : SchemaForm → List Behaviour → SchemaForm
+with_behaviours form behaviours = record form { behaviours = behaviours }
 
-abbrev gathered_of : SchemaForm → Gathered
-gathered_of form = record { entries = form.entries; expressions = form.expressions; models = form.models }
+abbrev made_of : Gathering → List Behaviour → EntryNo → ℕ → SchemaForm
+made_of g behaviours root history = record {
+  entries = g.entries;
+  expressions = g.expressions;
+  models = g.models;
+  behaviours = behaviours;
+  astray = g.astray;
+  root = root;
+  history = history;
+}
 
 same_length : (m n : ℕ) → pos m ≡ pos n → m ≡ n
 same_length m n e = cc
 
--- a file has one form
-pub one_form : (file : Value) (f g : SchemaForm) → IsForm file f → IsForm file g → f ≡ g
+-- a file has one form, but for the inside of its expressions and statements
+pub one_form : (file : Value) (f g : SchemaForm) → IsForm file f → IsForm file g → f ≡ with_behaviours g f.behaviours
 one_form file f g x y =
-    let same : gathered_of f ≡ gathered_of g = sym x.types ∙ y.types in
-    let entries : f.entries ≡ g.entries = ap (λ (a : Gathered). a.entries) same in
-    let expressions : f.expressions ≡ g.expressions = ap (λ (a : Gathered). a.expressions) same in
-    let models : f.models ≡ g.models = ap (λ (a : Gathered). a.models) same in
+    let same : form_shown f ≡ form_shown g = sym x.types ∙ y.types in
     let roots : f.root ≡ g.root = same_Some f.root g.root (sym x.root ∙ y.root) in
     let histories : f.history ≡ g.history = same_length f.history g.history (sym x.history ∙ y.history) in
-    ap (λ es. form_of es f.expressions f.models f.root f.history) entries
-    ∙ ap (λ es. form_of g.entries es f.models f.root f.history) expressions
-    ∙ ap (λ ms. form_of g.entries g.expressions ms f.root f.history) models
-    ∙ ap (λ r. form_of g.entries g.expressions g.models r f.history) roots
-    ∙ ap (λ n. form_of g.entries g.expressions g.models g.root n) histories
+    ap (λ (a : Gathering). made_of a f.behaviours f.root f.history) same
+    ∙ ap (λ r. made_of (form_shown g) f.behaviours r f.history) roots
+    ∙ ap (λ n. made_of (form_shown g) f.behaviours g.root n) histories
+
+-- and they show the same
+pub one_behaviour : (file : Value) (f g : SchemaForm) → IsForm file f → IsForm file g → map behaviour_shown f.behaviours ≡ map behaviour_shown g.behaviours
+one_behaviour file f g x y = ap (λ (a : Gathering). a.behaviours) (sym x.types ∙ y.types)
 
 module _ (entries : List Entry) (models : List ModelForm) (places : List Place) where
   one_place : (t u : ℕ) → t ≡ u → (p q : Place) → slice_get places t ≡ Some p → slice_get places u ≡ Some q → p ≡ q
@@ -60,6 +70,8 @@ module _ (entries : List Entry) (models : List ModelForm) (places : List Place) 
       ap (λ (o : Entry). entry_path o.name) ones
   one_pointer _ _ _ _ e (entry t x one at is) (property u n j model p there was stands) =
       let same : place.Entry x ≡ place.Property n j = one_place t u e (place.Entry x) (place.Property n j) at there in cc
+  one_pointer _ _ _ _ e (entry t x one at is) (param u n j k model action there was stands) =
+      let same : place.Entry x ≡ place.Param n j k = one_place t u e (place.Entry x) (place.Param n j k) at there in cc
   one_pointer _ _ _ _ e (entry t x one at is) (part u w step path there on) =
       let same : place.Entry x ≡ place.Part w step = one_place t u e (place.Entry x) (place.Part w step) at there in cc
   one_pointer _ _ _ _ e (property t m i model p at is stands) (entry u y other there was) =
@@ -73,12 +85,33 @@ module _ (entries : List Entry) (models : List ModelForm) (places : List Place) 
       (subst (λ (o : ModelForm). slice_get o.properties j ≡ Some q) (sym ones) lies) in
       let properties : p ≡ q = same_Some p q (sym stands ∙ theirs) in
       ap (λ (o : ModelForm). entry_path o.name ++ property_path p.name) ones ∙ ap (λ (r : Property). entry_path other.name ++ property_path r.name) properties
+  one_pointer _ _ _ _ e (property t m i model p at is stands) (param u n j k other action there was lies) =
+      let same : place.Property m i ≡ place.Param n j k = one_place t u e (place.Property m i) (place.Param n j k) at there in cc
+  one_pointer _ _ _ _ e (param t m i d model action at is stands) (entry u y other there was) =
+      let same : place.Param m i d ≡ place.Entry y = one_place t u e (place.Param m i d) (place.Entry y) at there in cc
+  one_pointer _ _ _ _ e (param t m i d model action at is stands) (property u n j other q there was lies) =
+      let same : place.Param m i d ≡ place.Property n j = one_place t u e (place.Param m i d) (place.Property n j) at there in cc
+  one_pointer _ _ _ _ e (param t m i d model action at is stands) (param u n j k other named there was lies) =
+      let same : place.Param m i d ≡ place.Param n j k = one_place t u e (place.Param m i d) (place.Param n j k) at there in
+      let numbers : m ≡ n = cc in
+      let indices : i ≡ j = cc in
+      let others : d ≡ k = cc in
+      let ones : model ≡ other = same_Some model other (sym is ∙ subst (λ (x : ModelNo). slice_get models x.0 ≡ Some other) (sym numbers) was) in
+      let theirs : slice_get model.actions i ≡ Some named = subst (λ x. slice_get model.actions x ≡ Some named) (sym indices)
+      (subst (λ (o : ModelForm). slice_get o.actions j ≡ Some named) (sym ones) lies) in
+      let names : action ≡ named = same_Some action named (sym stands ∙ theirs) in
+      ap (λ (o : ModelForm). entry_path o.name ++ param_path action d) ones ∙ ap (λ x. entry_path other.name ++ param_path x d) names
+      ∙ ap (λ x. entry_path other.name ++ param_path named x) others
+  one_pointer _ _ _ _ e (param t m i d model action at is stands) (part u w step way there on) =
+      let same : place.Param m i d ≡ place.Part w step = one_place t u e (place.Param m i d) (place.Part w step) at there in cc
   one_pointer _ _ _ _ e (property t m i model p at is stands) (part u w step way there on) =
       let same : place.Property m i ≡ place.Part w step = one_place t u e (place.Property m i) (place.Part w step) at there in cc
   one_pointer _ _ _ _ e (part t v step path at up) (entry u y other there was) =
       let same : place.Part v step ≡ place.Entry y = one_place t u e (place.Part v step) (place.Entry y) at there in cc
   one_pointer _ _ _ _ e (part t v step path at up) (property u n j model p there was stands) =
       let same : place.Part v step ≡ place.Property n j = one_place t u e (place.Part v step) (place.Property n j) at there in cc
+  one_pointer _ _ _ _ e (part t v step path at up) (param u n j k model action there was stands) =
+      let same : place.Part v step ≡ place.Param n j k = one_place t u e (place.Part v step) (place.Param n j k) at there in cc
   one_pointer _ _ _ _ e (part t v step path at up) (part u w other way there on) =
       let same : place.Part v step ≡ place.Part w other = one_place t u e (place.Part v step) (place.Part w other) at there in
       let wholes : v ≡ w = cc in

@@ -1,7 +1,7 @@
 -- What holds of bytes and of the answers to them, whatever the bytes are.
 use Rattle.std.specs.Prelude.{◌≡◌, ℕ, List}
-use Rattle.schema_form.specs.declared.fault.Fault.{Fault}
-use Rattle.expr_core.specs.Schema.{Schema}
+use Rattle.expr_form.specs.declared.fault.Fault.{Fault}
+use Rattle.expr_core.specs.Schema.{Schema, behaviours_shown}
 use Rattle.schema_read.specs.Schema.{Spells, HasFirst}
 
 -- bytes that are a schema have no fault
@@ -12,6 +12,12 @@ SchemaHasNoFault = (bytes : List ℕ) (schema : Schema) (fault : Fault) → Spel
 abbrev pub FirstFaultIsOne : Type 0
 FirstFaultIsOne = (bytes : List ℕ) (one other : Fault) → HasFirst bytes one → HasFirst bytes other → one ≡ other
 
+-- schemas are the same, as far as their expressions and statements are seen
+pub record AreOne (one other : Schema) : Type 0 where
+  pub types : one.types ≡ other.types
+  pub history : one.history ≡ other.history
+  pub behaviours : behaviours_shown one ≡ behaviours_shown other
+
 -- bytes are one schema at most
 abbrev pub FileIsOneSchema : Type 0
-FileIsOneSchema = (bytes : List ℕ) (one other : Schema) → Spells bytes one → Spells bytes other → one ≡ other
+FileIsOneSchema = (bytes : List ℕ) (one other : Schema) → Spells bytes one → Spells bytes other → AreOne one other

@@ -1,4 +1,5 @@
 pub mod Types
+pub mod Astray
 pub mod Schema
 pub mod Laws
 pub mod Refusal

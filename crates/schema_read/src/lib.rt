@@ -13,6 +13,7 @@
 #![tactic(auto)]
 
 mod assemble;
+mod astray;
 mod error;
 mod laws;
 mod read;

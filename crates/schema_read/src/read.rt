@@ -7,11 +7,12 @@ ghost use Rattle.schema_read.specs.Schema.{Means, IsFirstOf, IsSchema, IsFirst, 
 ghost use Rattle.schema_read.specs.Refusal.{IfSyntax, IfRefused};
 
 use crate::assemble::draft_of;
+use crate::astray::{first_of, led_astray};
 use crate::error::SchemaError;
 use crate::shapes::model_of;
 use expr_core::Schema;
 use pointer_core::{Pointer, SchemaRule};
-use schema_form::{Fault, FormError, Laid, SchemaForm, pointer_to, read_form, taken_apart};
+use schema_form::{Fault, FormError, Laid, SchemaForm, read_form, taken_apart};
 use snap_core::Snap;
 use snap_json::read_loosely;
 use std::alloc::Global;
@@ -23,7 +24,8 @@ use type_draft::DraftError;
 /// Faults are looked for in three passes over the file, each in document order, which takes the keys of
 /// an object in ascending order: first in form, names, repetitions and the range of the history; then
 /// a root that is no model, types that lead back to themselves, identifiers and references that don't
-/// stand or lead where they may, and unions whose members aren't told apart; then defaults.
+/// stand or lead where they may, unions whose members aren't told apart, and expressions that lead to
+/// no model that they may name; then defaults.
 /// `schema_has_no_fault`, `first_fault_is_one` and `file_is_one_schema` say that no two of these answers
 /// are right.
 pub fn read_schema(alloc: Global, bytes: &[u8]) -> Result<Schema, SchemaError>
@@ -75,6 +77,8 @@ fn schema_of(alloc: Global, form: SchemaForm) -> Result<Schema, SchemaError>
         entries,
         expressions,
         models,
+        behaviours,
+        astray,
         root,
         history,
     } = form;
@@ -87,17 +91,17 @@ fn schema_of(alloc: Global, form: SchemaForm) -> Result<Schema, SchemaError>
     };
     let draft = draft_of(alloc, entries.as_slice(), models.as_slice(), kinds)?;
     match draft.finish(root) {
-        Ok(types) => Ok(Schema::new(types, history)),
+        Ok(types) => match astray {
+            None => Ok(Schema::new(types, history, behaviours)?),
+            Some(astray) => Err(refused(led_astray(models.as_slice(), astray)?)),
+        },
         Err(DraftError::Memory) => Err(SchemaError::Memory),
-        Err(DraftError::Wrong { t, rule }) => Err(SchemaError::Refused {
-            pointer: pointer_to(
-                alloc,
-                entries.as_slice(),
-                models.as_slice(),
-                places.as_slice(),
-                t,
-            )?,
-            rule,
-        }),
+        Err(DraftError::Wrong { t, rule }) => {
+            let entries = entries.as_slice();
+            let models = models.as_slice();
+            let places = places.as_slice();
+            let fault = first_of(alloc, entries, models, places, t, rule, astray)?;
+            Err(refused(fault))
+        }
     }
 }

@@ -1,10 +1,11 @@
 use Rattle.std.proofs.Common.{refl, sym, ◌∙◌, ap, drop, ◌+◌}
 use Rattle.snap_core.specs.View.{fields_view}
 use Rattle.schema_form.specs.Faults.{under, member_faults, entry_faults}
-use Rattle.schema_form.specs.Layout.{with_entries}
+use Rattle.schema_form.specs.Gathering.{gathered_shown, with_entries}
 use Rattle.schema_form.proofs.Finding.{handed-on, fields-passed, fields-found}
 use Rattle.schema_form.proofs.Laying.{OnOk-at}
-use Rattle.schema_form.proofs.Orders.{ordered_value, entries-step}
+use Rattle.schema_form.proofs.Orders.{ordered_value}
+use Rattle.schema_form.proofs.Ahead.{fields-ahead}
 use Rattle.schema_form.proofs.entries.read_entries.Goals as goal
 
 pub read_entry-entry-requires-clause-ordered : goal.read_entry-entry-requires-clause-ordered
@@ -24,9 +25,10 @@ loop-field-preserved c =
     let types = fields_view c.args.types.now in
     let f = c.field-item.result in
     let i = c.loop-field.field-index in
+    let rest = fields_view (drop (i + 1) c.args.types.now) in
     record {
       faults = fields-passed (member_faults (entry_faults types)) (λ k v. under k (entry_faults types k v)) (λ k v ms. refl) (member_faults (entry_faults types) types) c.args.types.now i f
           c.loop-field-test.true c.field-item.is c.loop-field.invariant.faults (rw c.text.ensures at (c.in_ok-under.ensures.finds _ c.read_entry-entry.ensures.finds));
-      entries = c.loop-field.invariant.entries ∙ entries-step types c.loop-field.gathered c.args.types.now i f c.loop-field-test.true c.field-item.is
-          ∙ ap (λ g. with_entries types g (fields_view (drop (i + 1) c.args.types.now))) (sym (OnOk-at c.read_entry-entry.result _ c.in_ok-under.ensures.ok c.read_entry-entry.ensures.ok));
+      entries = c.loop-field.invariant.entries ∙ ap (with_entries types (gathered_shown c.loop-field.gathered)) (fields-ahead c.args.types.now i f c.loop-field-test.true c.field-item.is)
+          ∙ ap (λ g. with_entries types g rest) (sym (OnOk-at c.read_entry-entry.result _ c.in_ok-under.ensures.ok c.read_entry-entry.ensures.ok));
     }

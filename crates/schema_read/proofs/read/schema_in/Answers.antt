@@ -1,6 +1,6 @@
 use Rattle.std.proofs.Common.{sym, subst}
 use Rattle.snap_core.specs.View.{view}
-use Rattle.schema_form.specs.declared.fault.Fault.{Fault}
+use Rattle.expr_form.specs.declared.fault.Fault.{Fault}
 use Rattle.schema_read.specs.Schema.{IsFirst, IsFirstOf, in_file, in_form}
 use Rattle.schema_read.proofs.Refusals.{IfRefused-weaker}
 use Rattle.schema_read.proofs.read.schema_in.Goals as goal

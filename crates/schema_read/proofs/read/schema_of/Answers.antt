@@ -31,36 +31,25 @@ finish-requires-clause-defined c =
     let plan : c.in_ok-draft.draft ≡ plan_of (table_of form) = rw (c.as_slice-3.ensures, c.as_slice-4.ensures, c.in_ok-places.ensures.kinds) at c.in_ok-draft.ensures in
     subst (λ (p : Plan). All IsSome p.shapes) (sym plan) (All-IsSome (table_of form).shapes)
 
-pub returns-in-Ok-clause-ok : goal.returns-in-Ok-clause-ok
-returns-in-Ok-clause-ok c =
-    let form = c.args.form in
-    let known = c.in-Ok.ensures in
-    let is : root_of form ≡ Some c.in-Some.root = sym (rw (c.as_slice.ensures, c.as_slice-2.ensures, c.in_ok-places.ensures.kinds) at c.model_of.ensures) ∙ c.in-Some.is in
-    let plan : c.in_ok-draft.draft ≡ plan_of (table_of form) = rw (c.as_slice-3.ensures, c.as_slice-4.ensures, c.in_ok-places.ensures.kinds) at c.in_ok-draft.ensures in
-    rw c.new-in-Ok.ensures record {
-      root = is ∙ ap Some (sym known.root);
-      types = same_table c.in-Ok.types.table (table_of form) (known.plan ∙ plan);
-      faultless = known.faultless;
-      sound = known.sound;
-      history = refl;
-    }
+pub returns-in-None-clause-ok : goal.returns-in-None-clause-ok
+returns-in-None-clause-ok c = ?
 
-pub pointer_to-requires-clause-within : goal.pointer_to-requires-clause-within
-pointer_to-requires-clause-within c =
+pub returns-in-Ok-clause-refused : goal.returns-in-Ok-clause-refused
+returns-in-Ok-clause-refused c = ?
+
+pub first_of-requires-clause-places : goal.first_of-requires-clause-places
+first_of-requires-clause-places c =
+    let form = c.args.form in
+    rw (c.as_slice-entries.ensures, c.as_slice-models.ensures, c.as_slice-places.ensures, c.in_ok-places.ensures.places) c.requires.places
+
+pub first_of-requires-clause-within : goal.first_of-requires-clause-within
+first_of-requires-clause-within c =
     let form = c.args.form in
     let plan : c.in_ok-draft.draft ≡ plan_of (table_of form) = rw (c.as_slice-3.ensures, c.as_slice-4.ensures, c.in_ok-places.ensures.kinds) at c.in_ok-draft.ensures in
     let fault = c.in-Err-Wrong in
     let wrong = rw fault.field-0-is at fault.ensures.wrong in
     let first = wrong (table_of form) (sym plan) in
-    rw (c.as_slice-in-Err-Wrong-3.ensures, c.in_ok-places.ensures.places) (HasFault-expression form fault.t.0 fault.rule first.fault)
+    rw (c.as_slice-places.ensures, c.in_ok-places.ensures.places) (HasFault-expression form fault.t.0 fault.rule first.fault)
 
 pub returns-clause-refused : goal.returns-clause-refused
-returns-clause-refused c =
-    let form = c.args.form in
-    let is : root_of form ≡ Some c.in-Some.root = sym (rw (c.as_slice.ensures, c.as_slice-2.ensures, c.in_ok-places.ensures.kinds) at c.model_of.ensures) ∙ c.in-Some.is in
-    let plan : c.in_ok-draft.draft ≡ plan_of (table_of form) = rw (c.as_slice-3.ensures, c.as_slice-4.ensures, c.in_ok-places.ensures.kinds) at c.in_ok-draft.ensures in
-    let fault = c.in-Err-Wrong in
-    let wrong = rw fault.field-0-is at fault.ensures.wrong in
-    let first = wrong (table_of form) (sym plan) in
-    let pointer = rw (c.as_slice-in-Err-Wrong.ensures, c.as_slice-in-Err-Wrong-2.ensures, c.as_slice-in-Err-Wrong-3.ensures, c.in_ok-places.ensures.places) at c.in_ok-pointer_to-in-Err-Wrong.ensures in
-    at_type c.in-Some.root fault.t.0 c.in_ok-pointer_to-in-Err-Wrong.field-0 fault.rule is first pointer
+returns-clause-refused c = ?
