@@ -1,5 +1,5 @@
 -- Where the first fault of the types doesn't come before an expression that goes astray, no fault does.
-use Rattle.std.proofs.Common.{◌≡◌, ℕ, ◌<◌, Bool, true, false, Option, Some, None, inl, inr, refl, sym, ◌∙◌, arith}
+use Rattle.std.proofs.Common.{◌≡◌, ℕ, ◌<◌, length, slice_get, Bool, true, false, Option, Some, None, inl, inr, refl, sym, ◌∙◌, subst, arith}
 use Rattle.std.specs.Prelude.{nat_lt, ◌⊎◌}
 use Rattle.std.proofs.lemmas.Bool.{cases_lt}
 use Rattle.std.proofs.lemmas.Bool.Decides.{Decides-ltb}
@@ -8,7 +8,15 @@ use Rattle.pointer_core.specs.declared.schema_rule.SchemaRule.TheVariants.{Shape
 use Rattle.type_table.specs.Table.{Table}
 use Rattle.type_draft.specs.Faults.{HasFault, pass_of, Precedes, IsFirstFault}
 use Rattle.schema_form.specs.declared.form.Astray.{Astray}
-use Rattle.schema_read.specs.Astray.{stands_before}
+use Rattle.schema_form.specs.declared.form.SchemaForm.{SchemaForm}
+use Rattle.schema_form.specs.declared.form.ModelForm.{ModelForm}
+use Rattle.schema_form.specs.Pointers.{IsPointer, places_of}
+use Rattle.schema_form.proofs.Pointing.{some-at}
+use Rattle.expr_form.specs.declared.fault.Fault.{Fault}
+use Rattle.snap_core.specs.declared.number.ModelNo.{ModelNo}
+use Rattle.schema_read.specs.Types.{table_of, root_of}
+use Rattle.schema_read.specs.Schema.{IsFirstOf, at_type, at_astray}
+use Rattle.schema_read.specs.Astray.{astray_path, stands_before, is_before}
 
 less : (m n : ℕ) → nat_lt m n ≡ true → m < n
 less m n h = (Decides-ltb m n).0 h
@@ -63,3 +71,33 @@ none-before table t rule a fault late u other wrong = not-true (stands_before u 
 
 pub none-at-all : (table : Table) (a : Astray) → ((u : ℕ) (other : SchemaRule) → ¬ (HasFault table u other)) → (u : ℕ) (other : SchemaRule) → HasFault table u other → stands_before u other a ≡ false
 none-at-all table a none u other wrong = absurd (none u other wrong)
+
+-- an expression that goes astray where the types have no fault before it
+pub strays : (form : SchemaForm) (root : ModelNo) (a : Astray) (fault : Fault) → root_of form ≡ Some root → form.astray ≡ Some a → a.model.0 < length form.models
+    → ((u : ℕ) (other : SchemaRule) → HasFault (table_of form) u other → stands_before u other a ≡ false)
+    → ((model : ModelForm) → slice_get form.models a.model.0 ≡ Some model → fault ≡ record { path = astray_path model.name a.path; rule = Target }) → IsFirstOf form fault
+strays form root a fault is astray within later led =
+    let model = some-at form.models a.model.0 within in
+    let P : Fault → Type 0 = IsFirstOf form in
+    subst P (sym (led model.0 model.1)) (at_astray root a model.0 is astray later model.1)
+
+not-before : (t : ℕ) (rule : SchemaRule) (o : Option Astray) → is_before t rule o ≡ false → (a : Astray) × (o ≡ Some a) × (stands_before t rule a ≡ false)
+not-before t rule (Some a) h = (a, refl, h)
+not-before t rule None h = absurd cc
+
+-- the first of a fault of the types and of an expression that goes astray
+pub judged : (form : SchemaForm) (root : ModelNo) (t : ℕ) (rule : SchemaRule) (fault : Fault) → ((a : Astray) → form.astray ≡ Some a → a.model.0 < length form.models)
+    → root_of form ≡ Some root → IsFirstFault (table_of form) t rule
+    → (is_before t rule form.astray ≡ true → IsPointer form.entries form.models (places_of form.expressions) t fault.path × (fault.rule ≡ rule))
+    → ((a : Astray) (model : ModelForm) → form.astray ≡ Some a → stands_before t rule a ≡ false → slice_get form.models a.model.0 ≡ Some model
+    → fault ≡ record { path = astray_path model.name a.path; rule = Target }) → IsFirstOf form fault
+judged form root t rule fault known is first at led = by (is_before t rule form.astray) refl where
+  by : (b : Bool) → is_before t rule form.astray ≡ b → IsFirstOf form fault
+  by true before =
+      let here = at before in
+      let P : SchemaRule → Type 0 = λ r. IsFirstOf form (record { path = fault.path; rule = r }) in
+      subst P (sym here.1) (at_type root t fault.path rule is first before here.0)
+  by false late =
+      let stray = not-before t rule form.astray late in
+      let a : Astray = stray.0 in
+      strays form root a fault is stray.1 (known a stray.1) (none-before (table_of form) t rule a first stray.2) (λ model there. led a model stray.1 stray.2 there)
