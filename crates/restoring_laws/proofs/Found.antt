@@ -30,7 +30,7 @@ there-map : {A B : Type 0} → (o : Option A) (f : A → B) → There o → Ther
 there-map o f t = record { of = f t.of; is = ap (option_map f) t.is }
 
 -- an index that is below a bound, and one where a new item can go
-below : (i bound : ℕ) (token : List ℕ) → index_of token ≡ Some i → i < bound → index_below bound token ≡ Some i
+pub below : (i bound : ℕ) (token : List ℕ) → index_of token ≡ Some i → i < bound → index_below bound token ≡ Some i
 below i bound token is within = let test : nat_lt i bound ≡ true = lt-ltb i bound within in rw (is, test) refl
 
 new-place : (i length : ℕ) (token : List ℕ) → index_of token ≡ Some i → i ≤ length → new_index length token ≡ Some i

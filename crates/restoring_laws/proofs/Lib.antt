@@ -8,5 +8,7 @@ pub mod Found
 pub mod PutBack
 pub mod InTurn
 pub mod Undone
+pub mod Holding
+pub mod Single
 pub mod Nodes
 pub mod Examples

@@ -1,10 +1,10 @@
 -- What patches that are put back leave of a tree's nodes.
-use Rattle.std.proofs.Common.{ℕ, ◌≤◌, List, [], ◌∷◌, All, arith}
+use Rattle.std.proofs.Common.{List, [], ◌∷◌, All, arith}
 use Rattle.snap_core.specs.Value.{IsPlain}
 use Rattle.patch_core.specs.Printing.{HasPlainValues}
 use Rattle.patch_core.specs.declared.patch.Patch.{Patch}
 use Rattle.type_table.specs.Table.{Catalog}
-use Rattle.edit_core.specs.Labelled.{Labelled, bare}
+use Rattle.edit_core.specs.Labelled.{bare}
 use Rattle.edit_core.specs.Logged.{LoggedEdit}
 use Rattle.edit_core.specs.Numbers.{AreNumbered}
 use Rattle.tree_core.specs.Changed.{Changed}

@@ -1,5 +1,5 @@
 -- What a call did is undone by its inverses, and done again by its patches.
-use Rattle.std.proofs.Common.{◌≡◌, List, [], ◌∷◌, ◌++◌, map, reverse, All, sym, subst}
+use Rattle.std.proofs.Common.{◌≡◌, List, [], ◌∷◌, ◌++◌, map, All, sym, subst}
 use Rattle.std.proofs.lemmas.List.{reverse-append}
 use Rattle.std.proofs.lemmas.List.Elements.{All-nil, All-cons, All-head, All-tail, All-append}
 use Rattle.snap_core.specs.Value.{Value, IsPlain}
@@ -20,7 +20,7 @@ plain-behind : (ps qs : List Patch) → All HasPlainValues (ps ++ qs) → All Ha
 plain-behind [] qs h = h
 plain-behind (p ∷ ps) qs h = plain-behind ps qs (All-tail HasPlainValues p (ps ++ qs) h)
 
-plain-back : (ps : List Patch) → All HasPlainValues ps → All HasPlainValues (back ps)
+pub plain-back : (ps : List Patch) → All HasPlainValues ps → All HasPlainValues (back ps)
 plain-back [] h = All-nil HasPlainValues
 plain-back (p ∷ ps) h =
     let own : HasPlainValues p = All-head HasPlainValues p ps h in
@@ -29,7 +29,7 @@ plain-back (p ∷ ps) h =
     (All-append HasPlainValues (back ps) (inverse_of p ∷ []) (plain-back ps (All-tail HasPlainValues p ps h)) last)
 
 module _ (types : Catalog) (before after : State) (call : LeadsOn before after) (typed : IsTypedTree types after) where
-  own-plain : All HasPlainValues call.on.more
+  pub own-plain : All HasPlainValues call.on.more
   own-plain = plain-behind (patches_of before) call.on.more (subst (All HasPlainValues) call.on.logged typed.logged)
 
   pub undone : (s : State) → bare s.tree ≡ bare after.tree → IsCounted types (back call.on.more) s

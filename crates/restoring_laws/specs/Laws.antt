@@ -7,14 +7,15 @@ use Rattle.patch_core.specs.Inverse.{back}
 use Rattle.patch_core.specs.Printing.{HasPlainValues}
 use Rattle.patch_core.specs.declared.patch.Patch.{Patch}
 use Rattle.type_table.specs.Table.{Catalog}
+use Rattle.type_core.specs.Sound.{IsSound}
 use Rattle.edit_core.specs.Labelled.{bare}
 use Rattle.edit_core.specs.Numbers.{times, AreNumbered}
 use Rattle.tree_core.specs.Changed.{Changed}
 use Rattle.tree_core.specs.Recorded.{tree_in}
 use Rattle.tree_core.specs.State.{State, mark_of, patches_of}
 use Rattle.tree_lists.specs.Restoring.{Restoring, one_restored, after_restoring}
-use Rattle.tree_laws.specs.Calls.{LeadsOn}
-use Rattle.tree_laws.specs.Trees.{IsTypedTree}
+use Rattle.tree_laws.specs.Calls.{Writes, WritesList, LeadsOn}
+use Rattle.tree_laws.specs.Trees.{IsTypedTree, IsSoundTree}
 use Rattle.restoring_laws.specs.Places.{AreInNodes}
 
 -- The tree is without its labels a value, and the log went on with exactly these patches.
@@ -65,7 +66,21 @@ CallsAreUndone =
     → (s : State) → bare s.tree ≡ bare after.tree → IsCounted types (back call.on.more) s
     → ArePutBack (back call.on.more) (bare before.tree) s (after_restoring types (back call.on.more) s)
 
--- And done again: its patches, put back on a tree with the snapshot before it, give the one that it left.
+-- A write of a sound tree that logged one patch is undone by its inverse; nothing is asked of the log.
+abbrev pub SingleWritesAreUndone : Type 0
+SingleWritesAreUndone =
+    (types : Catalog) → IsSound types → (before after : State) → IsSoundTree types before → Writes types before after
+    → (call : LeadsOn before after) → length call.on.more ≡ 1
+    → ArePutBack (back call.on.more) (bare before.tree) after (after_restoring types (back call.on.more) after)
+
+-- So is a list of one patch.
+abbrev pub SinglePatchesAreUndone : Type 0
+SinglePatchesAreUndone =
+    (types : Catalog) → IsSound types → (before after : State) → IsSoundTree types before → (w : WritesList types before after) → length w.patches ≡ 1
+    → (call : LeadsOn before after) → length call.on.more ≡ 1
+    → ArePutBack (back call.on.more) (bare before.tree) after (after_restoring types (back call.on.more) after)
+
+-- And what a call did is done again: its patches, put back on a tree with the snapshot before it, give the one that it left.
 abbrev pub CallsAreRedone : Type 0
 CallsAreRedone =
     (types : Catalog) (before after : State) (call : LeadsOn before after) → IsTypedTree types before → IsTypedTree types after

@@ -1,4 +1,4 @@
-ghost use Rattle.restoring_laws.specs.Laws.{PuttingBackApplies, CountedArePutBack, EachIsApplied, CountedAreApplied, CallsAreUndone, CallsAreRedone, DeadNodesStayDead};
+ghost use Rattle.restoring_laws.specs.Laws.{PuttingBackApplies, CountedArePutBack, EachIsApplied, CountedAreApplied, CallsAreUndone, SingleWritesAreUndone, SinglePatchesAreUndone, CallsAreRedone, DeadNodesStayDead};
 
 /// Patches that fit in turn, at places in nodes, and are put back lead where applying them leads, and are logged as they are.
 pub fn putting_back_applies()
@@ -23,6 +23,16 @@ pub fn counted_are_applied()
 /// The inverses of what a call logged, last first, undo it.
 pub fn calls_are_undone()
     ensures { CallsAreUndone }
+{}
+
+/// The inverse of the one patch that a write logged undoes it.
+pub fn single_writes_are_undone()
+    ensures { SingleWritesAreUndone }
+{}
+
+/// So it is with a list of one patch.
+pub fn single_patches_are_undone()
+    ensures { SinglePatchesAreUndone }
 {}
 
 /// What a call logged does it again.

@@ -13,5 +13,6 @@ mod laws;
 
 pub use laws::{
     calls_are_redone, calls_are_undone, counted_are_applied, counted_are_put_back,
-    dead_nodes_stay_dead, each_is_applied, putting_back_applies,
+    dead_nodes_stay_dead, each_is_applied, putting_back_applies, single_patches_are_undone,
+    single_writes_are_undone,
 };
