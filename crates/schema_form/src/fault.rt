@@ -7,7 +7,7 @@ pub enum FormError {
     #[error("out of memory")]
     Memory,
     /// The first fault.
-    #[error("a schema at fault")]
+    #[error("schema {0}")]
     Wrong(Fault),
 }
 
