@@ -5,7 +5,7 @@ use Rattle.std.proofs.lemmas.List.{append-nil}
 use Rattle.std.proofs.lemmas.List.Elements.{All-nil, All-cons, All-append}
 use Rattle.snap_core.specs.Value.{Value, no_members, member, IsOrdered, AreOrderedMembers, keys_of, Fields}
 use Rattle.snap_core.specs.declared.number.ModelNo.{ModelNo}
-use Rattle.model_syntax.specs.Shown.{ShownAction, ShownBehaviour}
+use Rattle.model_syntax.specs.Shown.{ShownAction, ShownBehaviour, IsInOrder}
 use Rattle.schema_form.specs.declared.form.SchemaForm.{SchemaForm}
 use Rattle.schema_form.specs.declared.form.EntryNo.{EntryNo}
 use Rattle.schema_form.specs.declared.form.Entry.{Entry}
@@ -26,7 +26,8 @@ use Rattle.schema_form.proofs.Orders.{model-ordered}
 use Rattle.schema_form.proofs.NoFaults.{append_none, under_none}
 use Rattle.schema_form.proofs.Whole.{AllFrom, AllFrom-append, IsGood, fine-type}
 use Rattle.schema_form.proofs.Growing.{Longer, longer-none, longer-more, longer-length, grown-parts}
-use Rattle.schema_form.proofs.ModelSound.{IsFit, model-sound, get-behind, earlier-either}
+use Rattle.schema_form.proofs.ModelSound.{IsFit, model-sound, get-behind, earlier-either, ordered-entries}
+use Rattle.schema_form.proofs.Ascending.{model-in_order}
 
 -- there are no more entries than keys
 pub entry-bound : (name : List ℕ) (n : ℕ) (ms : Fields) (e : EntryNo) → entry_from n ms name ≡ Some e → e.0 < n + length (keys_of ms)
@@ -106,6 +107,7 @@ module _ (f : SchemaForm) (types : Fields) (known : (s : List ℕ) (e : EntryNo)
     pub typed : All (λ (e : Entry). e.of.0 < length f.expressions) g.entries
     pub models : All (IsModelIn f) g.models
     pub paired : length g.behaviours ≡ length g.models
+    pub ordered : All IsInOrder g.behaviours
     pub astray : (a : Astray) → g.astray ≡ Some a → a.model.0 < length f.models
 
   with-type : (g : Gathering) (k : List ℕ) (v : Value) → IsSoFar g → IsOrdered v → type_faults types v ≡ [] → Grows (with_type types g k v) final → IsSoFar (with_type types g k v)
@@ -125,6 +127,7 @@ module _ (f : SchemaForm) (types : Fields) (known : (s : List ℕ) (e : EntryNo)
             (All-cons (λ (e : Entry). e.of.0 < length f.expressions) entry [] (omega (arith, long, added, more)) (All-nil (λ (e : Entry). e.of.0 < length f.expressions)));
         models = so_far.models;
         paired = so_far.paired;
+        ordered = so_far.ordered;
         astray = so_far.astray;
       }
 
@@ -156,6 +159,8 @@ module _ (f : SchemaForm) (types : Fields) (known : (s : List ℕ) (e : EntryNo)
         models = All-append (IsModelIn f) g.models (its ∷ []) so_far.models
             (All-cons (IsModelIn f) its [] (record { named = fit.named; typed = fit.typed }) (All-nil (IsModelIn f)));
         paired = omega (arith, so_far.paired, new, more);
+        ordered = All-append IsInOrder g.behaviours (behaviour ∷ []) so_far.ordered
+            (All-cons IsInOrder behaviour [] (model-in_order (within_model types g parts) (model_begun g) parts (ordered-entries model ordered)) (All-nil IsInOrder));
         astray = λ a is. elim (earlier-either g.astray s.astray a is) [
           | inl first ↦ so_far.astray a first
           | inr second ↦ let same : a.model ≡ m = fit.astray a second in let Q : ModelNo → Type 0 = λ x. x.0 < length f.models in
@@ -183,4 +188,4 @@ module _ (f : SchemaForm) (types : Fields) (known : (s : List ℕ) (e : EntryNo)
   gathered-sound is ordered none =
       let P : Gathering → Type 0 = IsSoFar in
       subst P is (with-entries nothing types is
-      (record { good = tt; typed = All-nil (λ (e : Entry). e.of.0 < length f.expressions); models = All-nil (IsModelIn f); paired = refl; astray = λ a none. absurd cc }) ordered none)
+      (record { good = tt; typed = All-nil (λ (e : Entry). e.of.0 < length f.expressions); models = All-nil (IsModelIn f); paired = refl; ordered = All-nil IsInOrder; astray = λ a none. absurd cc }) ordered none)

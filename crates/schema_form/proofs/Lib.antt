@@ -14,6 +14,7 @@ pub mod Ahead
 pub mod Saying
 pub mod Growing
 pub mod ModelSound
+pub mod Ascending
 pub mod Gathering
 pub mod FileParts
 pub mod Wholeness

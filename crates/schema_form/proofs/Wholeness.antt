@@ -24,6 +24,7 @@ use Rattle.schema_form.specs.Pointers.{IsPlaceAmong}
 use Rattle.schema_form.specs.Form.{root_in, IsForm, IsWhole, IsModelIn}
 use Rattle.schema_form.proofs.NoFaults.{append_none, under_none, here_some}
 use Rattle.schema_form.proofs.Whole.{AllFrom, IsGood}
+use Rattle.schema_form.proofs.Ascending.{all-shown}
 use Rattle.schema_form.proofs.Gathering.{entry-bound, names-gathered, IsSoFar, gathered-sound}
 
 pub AllFrom-get : (P : ℕ → Expression → Type 0) (n k : ℕ) (xs : List Expression) (x : Expression) → AllFrom P n xs → slice_get xs k ≡ Some x → P (n + k) x
@@ -119,5 +120,6 @@ whole file f ordered none form =
       named = subst P (sym names) (AreKeyed-ordered types sound.1);
       root = known root.0 f.root root.1;
       behaviours = sym (length-map f.behaviours behaviour_shown) ∙ gathered.paired;
+      ordered = all-shown f.behaviours gathered.ordered;
       astray = gathered.astray;
     }

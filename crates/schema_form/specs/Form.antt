@@ -17,6 +17,7 @@ use Rattle.schema_form.specs.Pointers.{places_of, ArePlaces}
 use Rattle.schema_form.specs.Layout.{entry_named}
 use Rattle.schema_form.specs.Gathering.{gathered, form_shown}
 use Rattle.schema_form.specs.declared.form.Astray.{Astray}
+use Rattle.model_syntax.specs.Shown.{IsInOrder, behaviour_shown}
 
 -- the entry that the root names
 abbrev pub root_in : Value → Option Value → Option EntryNo
@@ -67,4 +68,5 @@ pub record IsWhole (form : SchemaForm) : Type 0 where
   pub named : AreAscending (map (λ (e : Entry). e.name) form.entries)
   pub root : form.root.0 < length form.entries
   pub behaviours : length form.behaviours ≡ length form.models
+  pub ordered : All (λ b. IsInOrder (behaviour_shown b)) form.behaviours
   pub astray : (a : Astray) → form.astray ≡ Some a → a.model.0 < length form.models
