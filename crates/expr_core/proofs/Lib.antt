@@ -1,0 +1,5 @@
+pub mod Examples
+pub mod Lists
+pub mod Names
+pub mod Places
+pub mod Standing
