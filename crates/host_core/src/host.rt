@@ -24,12 +24,14 @@ impl Model for Host {
     ghost use Rattle.std.specs.Prelude.{map};
     ghost use Rattle.std.specs.Coded.{codes};
     ghost use Rattle.snap_core.specs.contracts.snap.Snap as snap;
+    ghost use Rattle.expr_syntax.specs.contracts.expr.Form as form;
+    ghost use Rattle.expr_syntax.specs.contracts.stmt.Stmt as stmt;
     ghost use Rattle.host_core.specs.Host.{Hosted};
     ghost use Rattle.host_core.specs.Inside.{AreHeld, shown_of};
 
     ghost Value = { Hosted };
 
-    ghost coded = { Prim.hlevel (codes, snap.the_row.coded) };
+    ghost coded = { Prim.hlevel (codes, snap.the_row.coded, form.the_row.coded, stmt.the_row.coded) };
 
     ghost view = { λ h. record { schema = h.schema; shown = map shown_of h.docs.items } };
 

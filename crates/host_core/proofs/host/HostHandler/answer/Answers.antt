@@ -1,7 +1,7 @@
 use Rattle.http_front.specs.Request as request
 use Rattle.route_core.specs.Ask.{seen}
 use Rattle.host_core.proofs.Hosting.{host-replies, host-err}
-use Rattle.host_core.proofs.host.HostAnswers.answer.Goals as goal
+use Rattle.host_core.proofs.host.HostHandler.answer.Goals as goal
 
 pub returns-clause-ok : goal.returns-clause-ok
 returns-clause-ok c =
