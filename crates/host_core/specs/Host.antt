@@ -2,7 +2,7 @@
 use Rattle.std.specs.Prelude.{◌≡◌, ℕ, List, map}
 use Rattle.snap_core.specs.View.{view}
 use Rattle.snap_core.specs.declared.snap.Snap.{Snap}
-use Rattle.expr_core.specs.Schema.{Schema}
+use Rattle.type_table.specs.Table.{Catalog}
 use Rattle.http_front.specs.Reply.{Reply}
 use Rattle.http_front.specs.Request.{Request}
 use Rattle.host_core.specs.Docs.{Doc, Docs}
@@ -13,9 +13,9 @@ pub record Shown : Type 0 where
   pub name : List ℕ
   pub snapshot : Snap
 
--- a schema, and documents of it
+-- the types of a schema, and documents of them
 pub record Hosted : Type 0 where
-  pub schema : Schema
+  pub types : Catalog
   pub shown : List Shown
 
 abbrev pub doc_of : Shown → Doc
@@ -26,7 +26,7 @@ docs_of host = map doc_of host.shown
 
 -- what a request may get of a host, and the host after it
 pub record Replies (host : Hosted) (request : Request) (reply : Reply) (after : Hosted) : Type 0 where
-  pub schema : after.schema ≡ host.schema
+  pub types : after.types ≡ host.types
   pub steps :
-      Steps (record { types = host.schema.types; request = request }) (docs_of host)
+      Steps (record { types = host.types; request = request }) (docs_of host)
       (record { reply = reply; docs = docs_of after })

@@ -1,5 +1,5 @@
 -- A check of a schema, and whole requests on links, come to what they ask for.
-use Rattle.std.proofs.Common.{◌≡◌, ℕ, ◌<◌, ◌⊎◌, inl, inr, List, length, Option, Some, None, refl, sym, ◌∙◌, ap, subst, arith}
+use Rattle.std.proofs.Common.{◌≡◌, ℕ, ◌<◌, ◌⊎◌, inl, inr, List, [], length, Option, Some, None, refl, sym, ◌∙◌, ap, subst, arith}
 use Rattle.std.specs.Prelude.{IsSomeAnd}
 use Rattle.http_front.specs.Request.{Request}
 use Rattle.edge_core.specs.World.{WorldState, WorldHasFailed}
@@ -10,11 +10,12 @@ use Rattle.expr_core.specs.Schema.{Schema}
 use Rattle.schema_read.specs.Schema.{IsSchema, Spells}
 use Rattle.schema_read.specs.Laws.{SchemaHasNoFault, FileIsOneSchema}
 use Rattle.serve_core.specs.Laws.{DoorCompletes, FaultsAreCounted}
-use Rattle.serve_core.specs.Serving.{ServesDoor}
+use Rattle.serve_core.specs.Serving.{Serving, ServesDoor}
 use Rattle.serve_core.specs.declared.plan.Plan.{Plan}
 use Rattle.serve_core.specs.declared.plan.ServeEnd.{ServeEnd}
 use Rattle.serve_core.specs.declared.plan.ServeEnd.TheVariants as end
-use Rattle.top_call.specs.Answering.{replies}
+use Rattle.type_table.specs.Table.{Catalog}
+use Rattle.top_call.specs.Answering.{State, replies}
 use Rattle.top_call.specs.declared.exit.Exit.{Exit}
 use Rattle.top_call.specs.declared.exit.Exit.TheVariants.{Done, Checked, Usage, Unread, Syntax, Refused, DoorFailed, Memory, Inside}
 use Rattle.top_call.specs.Exit.{exit_code}
@@ -110,23 +111,29 @@ module _ (laws : Laws) (r : Run) (schema : Schema) (requests : List (List Reques
       let e : Some x.served.plan ≡ Some given.plan = sym by ∙ given.serves_by in
       cc
 
-  same_schema : x.served.schema ≡ schema
-  same_schema =
+  same_types : x.served.schema.types ≡ schema.types
+  same_types =
       let ours : IsFileOf x.served.schema given.file =
       of_file r.world_before.files (name_in given.command) given.file (IsFileOf x.served.schema) given.given
       (of_named r given.command (IsFileOf x.served.schema) given.named x.file) in
-      laws.file_is_one_schema given.file x.served.schema schema ours.spells given.is_schema.spells
+      (laws.file_is_one_schema given.file x.served.schema schema ours.spells given.is_schema.spells).types
 
-  same_served : x.served ≡ record { plan = given.plan; schema = schema; last = x.served.last }
-  same_served =
-      ap (λ (plan : Plan). record { plan = plan; schema = x.served.schema; last = x.served.last }) same_plan
-      ∙ ap (λ (s : Schema). record { plan = given.plan; schema = s; last = x.served.last }) same_schema
+  -- a state before the first request has a schema's types, and no more of it
+  serving_with : Plan → Catalog → Serving State
+  serving_with plan types = record {
+    plan = plan;
+    before = record { state = record { types = types; shown = [] }; door = r.door_before };
+    after = record { state = x.served.last; door = r.door_after };
+  }
+
+  same_serving : serving_of r x.served ≡ serving_of r (record { plan = given.plan; schema = schema; last = x.served.last })
+  same_serving = ap (λ plan. serving_with plan x.served.schema.types) same_plan ∙ ap (serving_with given.plan) same_types
 
   pub served_completes : ¬ (DoorHasFailed r.door_before r.door_after) → (outcome ≡ end.Memory) ⊎ ((outcome ≡ end.Done) × AreReplied r schema requests given)
   served_completes door =
       let ours : Served = record { plan = given.plan; schema = schema; last = x.served.last } in
       elim (laws.door_completes (serving_of r ours) outcome given.links requests
-      (subst (λ (served : Served). ServesDoor replies (serving_of r served) outcome) same_served x.door)
+      (subst (λ (serving : Serving State). ServesDoor replies serving outcome) same_serving x.door)
       (record { told = given.told; inputs = given.inputs }) door) [
         | inl memory ↦ inl memory
         | inr done ↦ inr (done.0, (x.served.last, done.1))
