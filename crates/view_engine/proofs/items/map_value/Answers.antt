@@ -1,0 +1,17 @@
+use Rattle.std.proofs.Common.{subst}
+use Rattle.std.specs.Prelude.{unwrap_or}
+use Rattle.snap_core.specs.Value.{null}
+use Rattle.eval_core.specs.declared.site.Site.{Site}
+use Rattle.eval_core.specs.Reading.{held_answer}
+use Rattle.eval_core.specs.Sight.{holds}
+use Rattle.answer_ops.specs.View.{answer_of}
+use Rattle.view_engine.specs.Did.{Read}
+use Rattle.view_engine.specs.Progress.{scope_of, whole_in}
+use Rattle.view_engine.specs.TreeSight.{held_there}
+use Rattle.tree_core.specs.declared.place.Place.TheVariants.{Key}
+use Rattle.view_engine.proofs.items.map_value.Goals as goal
+
+pub returns : goal.returns
+returns g c =
+    let n = c.args.n in
+    subst (λ k. Read answer_of c.held_there.result (held_answer (scope_of g.S.Bodies.says c.args.scope.now) (Site.Entry n k) (unwrap_or (held_there (whole_in g.S.Bodies.says c.args.scope.now) (Key n k)) (holds null)))) c.in_ok-key.ensures c.held_there.ensures

@@ -1,0 +1,12 @@
+pub mod TreeSight
+pub mod Saying
+pub mod Names
+pub mod Progress
+pub mod Halts
+pub mod Told
+pub mod Did
+pub mod Steps
+pub mod Got
+pub mod Walked
+pub mod Asks
+pub mod Made
