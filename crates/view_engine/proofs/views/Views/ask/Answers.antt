@@ -17,8 +17,8 @@ returns-clause-answer g c =
     let did = subst (λ (x : core.Scope). Did answer_of c.reach-answer.result (x.ask c.args.n c.args.v) way) c.outermost-scope.ensures.scope (c.reach-answer.ensures 0) in
     let says = g.S.Bodies.says c.args.schema.now in
     let outcome = (view_run says.viewing (sight_by says c.args.tree.now) c.args.n c.args.v 0).outcome in
-    subst (λ (frame : Path). Tells (telling says c.args.tree.now frame) _ outcome) c.new-here.ensures
-    (subst (λ (t : Telling). Tells t _ outcome) (c.outermost-scope.ensures.told c.new-here.result) (c.told.ensures _ did.outcome))
+    subst (λ (frame : Path). Tells (telling says c.args.tree.now frame) c.told.result outcome) c.new-here.ensures
+    (subst (λ (t : Telling). Tells t c.told.result outcome) (c.outermost-scope.ensures.told c.new-here.result) (c.told.ensures _ did.outcome))
 
 pub returns-clause-ticks : goal.returns-clause-ticks
 returns-clause-ticks g c =

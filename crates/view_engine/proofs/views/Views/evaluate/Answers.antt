@@ -13,7 +13,7 @@ returns-in_err-value-clause-answer g c =
     let framed = c.args.framed_by.now in
     let did = framed-did _ (frame_scope says.viewing (sight_by says c.args.tree.now)) (shown framed.expr.now) framed.env _ _ c.outermost-scope.ensures.scope c.evaluate-answer.ensures in
     let outcome = (in_frame says c.args.tree.now framed c.args.counted.now).outcome in
-    tells-handed _ c.in_err-value.field-0.0 c.from_residual.result outcome c.from_residual.ensures.1
+    tells-handed (telling says c.args.tree.now framed.frame.now) c.in_err-value.field-0.0 c.from_residual.result outcome c.from_residual.ensures.1
     (subst (λ (t : Telling). Tells t (Err c.in_err-value.field-0.0) outcome) (c.outermost-scope.ensures.told framed.frame.now) (c.in_err-value.ensures _ did.outcome))
 
 pub returns-in_err-value-clause-ticks : goal.returns-in_err-value-clause-ticks
