@@ -119,7 +119,7 @@ module _ (laws : Laws) (r : Run) (schema : Schema) (requests : List (List Reques
       (laws.file_is_one_schema given.file x.served.schema schema ours.spells given.is_schema.spells).types
 
   -- a state before the first request has a schema's types, and no more of it
-  serving_with : Plan → Catalog → Serving State
+  abbrev serving_with : Plan → Catalog → Serving State
   serving_with plan types = record {
     plan = plan;
     before = record { state = record { types = types; shown = [] }; door = r.door_before };
