@@ -13,7 +13,6 @@ returns c = record {
   snapshot = refl;
   patches = refl;
   reference = refl;
-  view = refl;
   empty = refl;
   slash_after = refl;
   slash_before = refl;
@@ -21,7 +20,5 @@ returns c = record {
   no_name_within = refl;
   bad_name = refl;
   escaped = refl;
-  no_view = refl;
-  below_view = refl;
   other_part = refl;
 }
