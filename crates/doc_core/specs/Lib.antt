@@ -4,3 +4,4 @@ pub mod Documents
 pub mod Errors
 pub mod Laws
 pub mod Staging
+pub mod Viewing

@@ -3,6 +3,7 @@ use std::alloc::AllocError;
 use thiserror::Error;
 use tree_core::TreeError;
 use type_core::MakeError;
+use view_engine::RunError;
 
 /// Why a document isn't made, read or changed.
 #[derive(Debug, Drop, Error)]
@@ -49,6 +50,20 @@ impl From<TreeError> for DocError {
         match error {
             TreeError::Memory => DocError::Memory,
             TreeError::Refused(refusal) => DocError::Refused(refusal),
+        }
+    }
+}
+
+impl From<RunError> for DocError {
+    ghost use Rattle.std.specs.Prelude.{◌≡◌};
+    ghost use Rattle.doc_core.specs.Errors.{run_error};
+
+    ghost from_gives = { λ run e. e ≡ run_error run };
+
+    fn from(error: RunError) -> DocError {
+        match error {
+            RunError::Memory => DocError::Memory,
+            RunError::Refused(refusal) => DocError::Refused(refusal),
         }
     }
 }

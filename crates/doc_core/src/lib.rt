@@ -8,6 +8,7 @@
 //!     Err(_) => document.cancel(),
 //! }
 //! let shown = document.snapshot(alloc, &Pointer::new(alloc))?;
+//! let answer = document.view(alloc, &schema, &user, "height", &mut steps)?;
 //! ```
 //!
 //! A request leaves exactly what its definition says, settling included, or its first refusal. After an error a document
@@ -20,6 +21,7 @@ mod error;
 mod laws;
 mod reading;
 mod staging;
+mod viewing;
 
 pub use creating::try_value;
 pub use document::{Document, Staged};

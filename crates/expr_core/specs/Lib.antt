@@ -1,3 +1,4 @@
 pub mod Numbers
+pub mod Plain
 pub mod Numbering
 pub mod Schema

@@ -18,6 +18,10 @@ pub record Schema : Type 0 where
 abbrev pub behaviours_shown : Schema → List ShownBehaviour
 behaviours_shown s = map behaviour_shown s.behaviours
 
+-- the views of each model, by what each model has
+abbrev pub views_in : List ShownBehaviour → List (List ShownView)
+views_in behaviours = map (λ b. b.views) behaviours
+
 -- the views of each model
 abbrev pub views_of : Schema → List (List ShownView)
 views_of s = map (λ b. (behaviour_shown b).views) s.behaviours
@@ -30,8 +34,11 @@ abbrev pub view_at : Schema → ViewNo → Option ShownView
 view_at s v = slice_get (joined (views_of s)) v.0
 
 -- the number of a model's view of this name, if the model has one
+abbrev pub numbered_view : List (List ShownView) → ModelNo → List ℕ → Option ViewNo
+numbered_view views m name = option_map (λ number. record { 0 = number }) (number_of (λ v. v.name) views m.0 name)
+
 abbrev pub view_no : Schema → ModelNo → List ℕ → Option ViewNo
-view_no s m name = option_map (λ number. record { 0 = number }) (number_of (λ v. v.name) (views_of s) m.0 name)
+view_no s m name = numbered_view (views_of s) m name
 
 -- the actions of each model
 abbrev pub actions_of : Schema → List (List ShownAction)

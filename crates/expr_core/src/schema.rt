@@ -6,6 +6,7 @@ ghost use Rattle.expr_syntax.specs.Shown.{shown};
 ghost use Rattle.expr_syntax.specs.ShownStatements.{block_shown};
 ghost use Rattle.model_syntax.specs.Shown.{IsInOrder, behaviour_shown, view_shown, action_shown, middleware_shown};
 ghost use Rattle.expr_core.specs.Numbers.{parts_of};
+ghost use Rattle.expr_core.specs.Plain.{HavePlainConstants};
 ghost use Rattle.expr_core.specs.Schema.{views_of, view_count, view_at, view_no, actions_of, action_count, action_at, action_no, middleware_of};
 
 use crate::named::position;
@@ -54,7 +55,8 @@ impl Schema {
         history: u32,
         behaviours: Parts<Behaviour>,
     ) -> Result<Schema, AllocError>
-        requires { All (λ b. IsInOrder (behaviour_shown b)) behaviours }
+        requires ordered { All (λ b. IsInOrder (behaviour_shown b)) behaviours }
+        requires plain { HavePlainConstants (map (λ b. (behaviour_shown b).views) behaviours) }
         ensures { Gives result (record { types = types; history = history; behaviours = behaviours }) }
     {
         let alloc = behaviours.allocator();
@@ -99,6 +101,7 @@ impl Schema {
         ensures number { result ≡ view_no self.now m name.now }
         ensures known { IfSome result (λ v. v.0 < view_count self.now) }
         ensures named { IfSome result (λ v. option_map (λ w. w.name) (view_at self.now v) ≡ Some name.now) }
+        ensures plain { HavePlainConstants (views_of self.now) }
     {
         let at = position(self.own_views(m), name)?;
         Some(ViewNo(self.views.number(Place { model: m.0, at })))

@@ -1,5 +1,5 @@
 -- What requests on one document come to: a reply, and the snapshot after it.
-use Rattle.std.specs.Prelude.{List, Option, Ok, Err}
+use Rattle.std.specs.Prelude.{ℕ, List, Option, Ok, Err}
 use Rattle.snap_core.specs.Value.{Value}
 use Rattle.pointer_core.specs.Path.{Path}
 use Rattle.patch_core.specs.declared.patch.Patch.{Patch}
@@ -8,9 +8,11 @@ use Rattle.type_core.specs.Making.{Outcome, Refused}
 use Rattle.edit_core.specs.Labelled.{bare}
 use Rattle.tree_core.specs.Asking.{led_from, shown}
 use Rattle.tree_core.specs.State.{State, patches_of}
+use Rattle.model_syntax.specs.Shown.{ShownView}
 use Rattle.doc_core.specs.Changing.{patched, replaced, tried}
+use Rattle.doc_core.specs.Viewing.{viewed}
 use Rattle.http_front.specs.Reply.{Reply}
-use Rattle.host_replies.specs.Replies.{place_reply, snapshot_reply, node_reply, change_reply}
+use Rattle.host_replies.specs.Replies.{place_reply, snapshot_reply, node_reply, answer_reply, change_reply}
 use Rattle.host_core.specs.Reading.{Read}
 
 -- a reply, and the document's snapshot after it
@@ -49,6 +51,15 @@ target_reply (Err refusal) = refusal_reply refusal
 abbrev pub resolving : Catalog → State → Read Path → Reply
 resolving types s (Ok path) = target_reply (led_from types path s.tree)
 resolving types s (Err reply) = reply
+
+-- what a view of the node at a pointer answers
+abbrev pub answer_of : Outcome Value → Reply
+answer_of (Ok v) = answer_reply v
+answer_of (Err refusal) = refusal_reply refusal
+
+abbrev pub viewing : Catalog → List (List ShownView) → State → List ℕ → Read Path → Reply
+viewing types views s name (Ok path) = answer_of (viewed types views path name s.tree)
+viewing types views s name (Err reply) = reply
 
 -- a change with its patches, or its refusal, which leaves all as it is
 abbrev pub change_done : State → Outcome State → Done

@@ -6,21 +6,24 @@ use Rattle.pointer_core.specs.declared.refusal.Rule.TheVariants as rule
 use Rattle.patch_core.specs.declared.patch.Patch.{Patch}
 use Rattle.type_table.specs.Table.{Catalog}
 use Rattle.type_core.specs.Making.{Outcome}
+use Rattle.model_syntax.specs.Shown.{ShownBehaviour}
+use Rattle.expr_core.specs.Schema.{views_in}
 use Rattle.edit_core.specs.Labelled.{bare}
 use Rattle.tree_core.specs.State.{State}
 use Rattle.doc_core.specs.Changing.{created}
 use Rattle.doc_core.specs.Documents.{IsCopy}
 use Rattle.http_front.specs.Reply.{Reply}
 use Rattle.http_front.specs.Request.{Request}
-use Rattle.route_core.specs.Ask.{Ask, try, list, create, discard, show, replace, change, resolve, Asked, unknown, wrong, well, asked_by}
+use Rattle.route_core.specs.Ask.{Ask, try, list, create, discard, show, replace, change, resolve, view, Asked, unknown, wrong, well, asked_by}
 use Rattle.host_replies.specs.Replies.{rule_reply, method_reply, snapshot_reply, names_reply, removed_reply}
-use Rattle.host_core.specs.Answering.{Done, refusal_reply, stays, trying, showing, resolving, patching, replacing}
+use Rattle.host_core.specs.Answering.{Done, refusal_reply, stays, trying, showing, resolving, viewing, patching, replacing}
 use Rattle.host_core.specs.Docs.{Docs, names_of, find, with_snapshot, with_doc, without, are_full}
 use Rattle.host_core.specs.Reading.{Read, Points, value_in, Lists}
 
--- a request to documents of these types
+-- a request to documents of these types, whose models have this beside their properties
 pub record Visit : Type 0 where
   pub types : Catalog
+  pub behaviours : List ShownBehaviour
   pub request : Request
 
 -- a reply, and the documents after it
@@ -69,6 +72,11 @@ Resolves visit snapshot done =
     (s : State) × IsCopy visit.types snapshot s
     × (path : Read Path) × Points visit.request.query path × (done ≡ stays s (resolving visit.types s path))
 
+abbrev pub Views : Visit → List ℕ → Value → Done → Type 0
+Views visit name snapshot done =
+    (s : State) × IsCopy visit.types snapshot s
+    × (path : Read Path) × Points visit.request.query path × (done ≡ stays s (viewing visit.types (views_in visit.behaviours) s name path))
+
 abbrev pub Replaces : Visit → Value → Done → Type 0
 Replaces visit snapshot done =
     (s : State) × IsCopy visit.types snapshot s × (done ≡ replacing visit.types s (value_in visit.request.body))
@@ -97,6 +105,7 @@ AnswersAsk visit (show name) docs answer = On name docs (Shows visit) answer
 AnswersAsk visit (replace name) docs answer = On name docs (Replaces visit) answer
 AnswersAsk visit (change name) docs answer = On name docs (Changes visit) answer
 AnswersAsk visit (resolve name) docs answer = On name docs (Resolves visit) answer
+AnswersAsk visit (view name one) docs answer = On name docs (Views visit one) answer
 
 -- a request: its path is judged first, with a document's name in it, then its method, and then what it asks for
 abbrev pub AnswersAsked : Visit → Asked → Docs → Answer → Type 0

@@ -10,6 +10,7 @@ use Rattle.edit_core.specs.Labelled.{bare}
 use Rattle.live_tree.specs.Contents.{Contents, state}
 use Rattle.http_front.specs.Reply.{Reply, printed}
 use Rattle.http_front.specs.Request as request
+use Rattle.expr_core.specs.Schema.{behaviours_shown}
 use Rattle.doc_core.specs.Documents.{IsDocument}
 use Rattle.host_core.specs.declared.held.Held.{Held}
 use Rattle.host_core.specs.declared.visit.Visit as declared
@@ -51,7 +52,7 @@ place_in name (held ∷ docs) = if is_lt (slice_cmp nat_cmp name held.name) then
 
 -- a request as the program has it
 abbrev pub visit_of : declared.Visit → Visit
-visit_of visit = record { types = visit.schema.now.types; request = request.seen visit.request.now }
+visit_of visit = record { types = visit.schema.now.types; behaviours = behaviours_shown visit.schema.now; request = request.seen visit.request.now }
 
 abbrev pub closes : declared.Visit → Bool
 closes visit = visit.request.now.close

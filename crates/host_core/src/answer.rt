@@ -4,13 +4,13 @@ ghost use Rattle.http_front.specs.Reply.{printed};
 ghost use Rattle.route_core.specs.Ask.{asked_by, seen, seen_ask};
 ghost use Rattle.host_replies.specs.Replies as replies;
 ghost use Rattle.host_core.specs.Answering.{trying};
-ghost use Rattle.host_core.specs.Asking.{AnswersAsk, AnswersAsked, Changes, On, Replaces, Resolves, Shows, Steps};
+ghost use Rattle.host_core.specs.Asking.{AnswersAsk, AnswersAsked, Changes, On, Replaces, Resolves, Shows, Steps, Views};
 ghost use Rattle.host_core.specs.Docs.{names_of};
 ghost use Rattle.host_core.specs.Inside.{AreHeld, IsAnswered, closes, held_docs, visit_of};
 ghost use Rattle.host_core.specs.Reading as reading;
 
 use crate::creating::{create, discard};
-use crate::document::{change, replace, resolve, show, show_answer};
+use crate::document::{ask_view, change, replace, resolve, show, show_answer};
 use crate::held::{Held, position};
 use crate::reading::value_in;
 use crate::visit::Visit;
@@ -56,6 +56,7 @@ fn answer_ask(visit: &Visit<'_>, ask: Ask<'_>, docs: &mut Vec<Held>) -> Result<B
         Ask::Replace(name) => replace_named(visit, docs, name),
         Ask::Change(name) => change_named(visit, docs, name),
         Ask::Resolve(name) => resolve_named(visit, docs, name),
+        Ask::View(name, one) => view_named(visit, docs, name, one),
     }
 }
 
@@ -105,6 +106,22 @@ fn resolve_named(visit: &Visit<'_>, docs: &[Held], name: &str) -> Result<Bytes, 
 {
     match position(docs, name) {
         Some(at) => resolve(visit, &docs[at].document),
+        None => unknown(visit),
+    }
+}
+
+fn view_named(
+    visit: &Visit<'_>,
+    docs: &[Held],
+    name: &str,
+    one: &str,
+) -> Result<Bytes, AllocError>
+    requires { AreHeld visit.now.schema.now.types docs.now }
+    ensures { IfOk result (λ bytes. IsAnswered (closes visit.now)
+        (On name.now (held_docs docs.now) (Views (visit_of visit.now) one.now)) bytes (held_docs docs.now)) }
+{
+    match position(docs, name) {
+        Some(at) => ask_view(visit, &docs[at].document, one),
         None => unknown(visit),
     }
 }

@@ -1,5 +1,5 @@
 //! Requests on one document.
-ghost use Rattle.std.specs.Prelude.{◌≡◌, All, Ok, IfOk, OnErr};
+ghost use Rattle.std.specs.Prelude.{◌≡◌, ◌<◌, All, Ok, IfOk, OnErr};
 ghost use Rattle.std.specs.Option.{option_copied};
 ghost use Rattle.snap_core.specs.Value.{IsPlain, Value};
 ghost use Rattle.snap_core.specs.View.{view};
@@ -13,19 +13,24 @@ ghost use Rattle.tree_core.specs.Asking.{led_from, shown};
 ghost use Rattle.doc_core.specs.Answers.{Answers};
 ghost use Rattle.doc_core.specs.Changing.{patched, replaced};
 ghost use Rattle.doc_core.specs.Documents.{IsDocument};
-ghost use Rattle.host_core.specs.Answering.{change_done, target_reply, value_reply};
-ghost use Rattle.host_core.specs.Asking.{Changes, Replaces, Resolves, Shows};
+ghost use Rattle.doc_core.specs.Viewing.{viewed};
+ghost use Rattle.expr_core.specs.Schema.{views_of};
+ghost use Rattle.host_core.specs.Answering.{answer_of, change_done, target_reply, value_reply};
+ghost use Rattle.host_core.specs.Asking.{Changes, Replaces, Resolves, Shows, Views};
 ghost use Rattle.host_core.specs.Inside.{IsDone, closes, snapshot_of, visit_of};
 ghost use Rattle.host_core.specs.Keeping.{IsKept, IsStaged, Staging};
 
 use crate::reading::{patches_in, pointer_in, value_in};
 use crate::visit::Visit;
 use doc_core::{DocError, Document, Staged};
-use host_replies::{change_reply, node_reply, refusal_reply, snapshot_reply};
+use expr_syntax::Steps;
+use host_replies::{answer_reply, change_reply, node_reply, refusal_reply, snapshot_reply};
 use patch_core::Patches;
 use pointer_core::Pointer;
 use snap_core::{Bytes, Snap};
 use std::alloc::AllocError;
+use std::marker::Brand;
+use std::sync::ledger::{Blank, Ledger};
 
 /// Shows the value at the query's pointer.
 pub fn show(visit: &Visit<'_>, document: &Document) -> Result<Bytes, AllocError>
@@ -74,6 +79,52 @@ fn resolve_at(visit: &Visit<'_>, document: &Document, path: &Pointer) -> Result<
             refusal_reply(visit.alloc, visit.request.close, &refusal)
         }
     }
+}
+
+/// Says what a view of the node at the query's pointer answers.
+pub fn ask_view(visit: &Visit<'_>, document: &Document, name: &str) -> Result<Bytes, AllocError>
+    requires { IsDocument visit.now.schema.now.types (state document.now) }
+    ensures { IfOk result (λ bytes. IsDone (closes visit.now) (Views (visit_of visit.now) name.now (snapshot_of document.now)) bytes (snapshot_of document.now)) }
+{
+    match pointer_in(visit)? {
+        Ok(path) => ask_view_at(visit, document, &path, name),
+        Err(reply) => Ok(reply),
+    }
+}
+
+fn ask_view_at(
+    visit: &Visit<'_>,
+    document: &Document,
+    path: &Pointer,
+    name: &str,
+) -> Result<Bytes, AllocError>
+    ensures { IfOk result (λ bytes. bytes ≡ printed (closes visit.now) (answer_of (viewed visit.now.schema.now.types (views_of visit.now.schema.now) path.now name.now (state document.now).tree))) }
+{
+    match view_answer::<Brand>(visit, document, path, name, Blank::new(1)) {
+        Ok(answer) => answer_reply(visit.alloc, visit.request.close, answer),
+        Err(DocError::Memory) => Err(AllocError),
+        Err(DocError::Refused(refusal)) => {
+            refusal_reply(visit.alloc, visit.request.close, &refusal)
+        }
+    }
+}
+
+// What the view answers, its steps counted on a new ledger.
+fn view_answer<L: Ledger>(
+    visit: &Visit<'_>,
+    document: &Document,
+    path: &Pointer,
+    name: &str,
+    blank: Blank,
+) -> Result<Snap, DocError>
+    requires name { blank.name ≡ L.name }
+    requires parts { blank.parts ≡ L.parts }
+    requires some { 0 < blank.parts }
+    ensures outcome { Answers view result (viewed visit.now.schema.now.types (views_of visit.now.schema.now) path.now name.now (state document.now).tree) }
+    ensures plain { IfOk result (λ answer. IsPlain (view answer)) }
+{
+    let mut steps = Steps::<L>::new(blank);
+    document.view(visit.alloc, visit.schema, path, name, &mut steps)
 }
 
 /// Changes a document by the patches of the body.

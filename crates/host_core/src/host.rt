@@ -12,7 +12,7 @@ use snap_core::Bytes;
 use std::alloc::{AllocError, Global};
 use std::marker::Model;
 
-/// Documents of one schema, by their names. Contracts see the types, and the name and the snapshot of each document.
+/// Documents of one schema, by their names. Contracts see the schema, and the name and the snapshot of each document.
 #[derive(Drop)]
 pub struct Host {
     schema: Schema,
@@ -24,14 +24,16 @@ impl Model for Host {
     ghost use Rattle.std.specs.Prelude.{map};
     ghost use Rattle.std.specs.Coded.{codes};
     ghost use Rattle.snap_core.specs.contracts.snap.Snap as snap;
+    ghost use Rattle.expr_syntax.specs.contracts.expr.Form as form;
+    ghost use Rattle.expr_syntax.specs.contracts.stmt.Stmt as stmt;
     ghost use Rattle.host_core.specs.Host.{Hosted};
     ghost use Rattle.host_core.specs.Inside.{AreHeld, shown_of};
 
     ghost Value = { Hosted };
 
-    ghost coded = { Prim.hlevel (codes, snap.the_row.coded) };
+    ghost coded = { Prim.hlevel (codes, snap.the_row.coded, form.the_row.coded, stmt.the_row.coded) };
 
-    ghost view = { λ h. record { types = h.schema.types; shown = map shown_of h.docs.items } };
+    ghost view = { λ h. record { schema = h.schema; shown = map shown_of h.docs.items } };
 
     ghost invariant = { λ h. AreHeld h.schema.types h.docs.items };
 }
@@ -39,7 +41,7 @@ impl Model for Host {
 impl Host {
     /// A host without documents.
     pub fn new(alloc: Global, schema: Schema) -> Result<Host, AllocError>
-        ensures { Gives result (record { types = schema.types; shown = [] }) }
+        ensures { Gives result (record { schema = schema; shown = [] }) }
     {
         Ok(Host {
             schema,

@@ -41,6 +41,10 @@ method_reply methods = record (rule_reply Method) { allow = Some methods }
 abbrev pub snapshot_reply : ℕ → Value → Reply
 snapshot_reply status v = reply_of status (only (codes "snapshot") v)
 
+-- the reply that says what a view answers
+abbrev pub answer_reply : Value → Reply
+answer_reply v = reply_of 200 (only (codes "answer") v)
+
 -- the reply that lists names
 abbrev pub names_reply : List (List ℕ) → Reply
 names_reply names = reply_of 200 (only (codes "docs") (list tt (parts_of (map text names))))

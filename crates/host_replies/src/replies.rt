@@ -57,6 +57,15 @@ pub fn snapshot_reply(
     reply(alloc, status, close, &body)
 }
 
+/// The reply that says what a view answers.
+pub fn answer_reply(alloc: Global, close: bool, answer: Snap) -> Result<Bytes, AllocError>
+    requires { IsPlain (view answer) }
+    ensures { IfOk result (λ bytes. bytes ≡ printed close (replies.answer_reply (view answer))) }
+{
+    let body = only(alloc, "answer", answer)?;
+    reply(alloc, 200, close, &body)
+}
+
 /// The reply that lists names.
 pub fn names_reply(alloc: Global, close: bool, names: Vec<Txt>) -> Result<Bytes, AllocError>
     ensures { IfOk result (λ bytes. bytes ≡ printed close (replies.names_reply names.items)) }

@@ -37,3 +37,13 @@ pub first_utf8 : (pattern text path : List ℕ) (names : List (ℕ × ℕ)) (par
     → is_plain_path path ≡ true → walk pattern text path names 0 0 ≡ part ∷ rest → IsUtf8 part.1
 first_utf8 pattern text path [] part rest plain is = cc
 first_utf8 pattern text path (name ∷ names) part rest plain is = head_utf8 _ part _ rest is (part_utf8 path _ _ (plain_ascii path plain))
+
+second_holds : (one two other another : List ℕ × List ℕ) (rest others : List (List ℕ × List ℕ)) → one ∷ two ∷ rest ≡ other ∷ another ∷ others → IsUtf8 two.1 → IsUtf8 another.1
+second_holds one two other another rest others is utf8 = (let same : two ≡ another = cc in subst (λ (p : List ℕ × List ℕ). IsUtf8 p.1) same utf8)
+
+-- and so is what the second one takes
+pub second_utf8 : (pattern text path : List ℕ) (names : List (ℕ × ℕ)) (first second : List ℕ × List ℕ) (rest : List (List ℕ × List ℕ))
+    → is_plain_path path ≡ true → walk pattern text path names 0 0 ≡ first ∷ second ∷ rest → IsUtf8 second.1
+second_utf8 pattern text path [] first second rest plain is = cc
+second_utf8 pattern text path (name ∷ []) first second rest plain is = cc
+second_utf8 pattern text path (name ∷ other ∷ names) first second rest plain is = second_holds _ _ first second _ rest is (part_utf8 path _ _ (plain_ascii path plain))

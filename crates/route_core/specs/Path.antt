@@ -12,7 +12,7 @@ use Rattle.route_core.specs.declared.place.Part.{Part}
 use Rattle.route_core.specs.declared.place.Part.TheVariants.{Whole, Snapshot, Patches, Reference}
 use Rattle.route_core.specs.declared.routes.Route.{Route}
 use Rattle.route_core.specs.declared.routes.Route.TheVariants as route
-use Rattle.route_core.specs.Place.{Place, check, names, document, is_document_name}
+use Rattle.route_core.specs.Place.{Place, check, names, document, view, is_document_name}
 
 -- the rows of a router
 abbrev pub Rows : Type 0
@@ -41,6 +41,7 @@ table =
     ∷ record { text = codes "/docs/{d}/snapshot"; value = route.Document Snapshot }
     ∷ record { text = codes "/docs/{d}/patches"; value = route.Document Patches }
     ∷ record { text = codes "/docs/{d}/reference"; value = route.Document Reference }
+    ∷ record { text = codes "/docs/{d}/views/{v}"; value = route.View }
     ∷ []
 
 unfoldable pub routes : Rows
@@ -58,12 +59,18 @@ taken found path = map (λ part. part.1) (walk found.pattern found.text path fou
 abbrev pub named_place : List ℕ → Part → Option Place
 named_place name part = if is_document_name name then Some (document name part) else None
 
+-- the place of a view, where the first of two names is a document's
+abbrev pub viewed : List (List ℕ) → Option Place
+viewed (name ∷ one ∷ parts) = if is_document_name name then Some (view name one) else None
+viewed _ = None
+
 -- the place of a route, by what its parameters took
 abbrev pub place_at : Route → List (List ℕ) → Option Place
 place_at route.Check parts = Some check
 place_at route.Names parts = Some names
 place_at (route.Document part) [] = None
 place_at (route.Document part) (name ∷ parts) = named_place name part
+place_at route.View parts = viewed parts
 
 -- the place of the route that was found
 abbrev pub place_found : List ℕ → Option (RouteOf Route) → Option Place

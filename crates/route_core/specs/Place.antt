@@ -6,17 +6,19 @@ use Rattle.route_core.specs.declared.place.Part.{Part}
 use Rattle.route_core.specs.declared.place.Place as declared
 use Rattle.route_core.specs.declared.place.Place.TheVariants as variants
 
--- what a path names: trying a value, the names of all documents, or a part of one document
+-- what a path names: trying a value, the names of all documents, a part of one document, or a view of one
 pub data Place : Type 0 where
   check : Place
   names : Place
   document : List ℕ → Part → Place
+  view : List ℕ → List ℕ → Place
 
 -- a place of the program as a place
 abbrev pub seen_place : declared.Place → Place
 seen_place variants.Check = check
 seen_place variants.Names = names
 seen_place (variants.Document name part) = document name.now part
+seen_place (variants.View name one) = view name.now one.now
 
 -- a byte of a document's name: a letter, a digit, `_` or `-`
 abbrev pub is_name_byte : ℕ → Bool

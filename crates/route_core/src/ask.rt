@@ -24,6 +24,8 @@ pub enum Ask<'p> {
     Change(&'p str),
     /// What a reference in it leads to.
     Resolve(&'p str),
+    /// What a view of a node in it answers: the document's name, and the view's, which may be any text.
+    View(&'p str, &'p str),
 }
 
 /// What the method and the path of a request come to.
@@ -44,6 +46,7 @@ pub(crate) fn asked_at<'p>(place: Place<'p>, method: &[u8]) -> Asked<'p>
         Place::Check => by_one(method, "POST", Ask::Try),
         Place::Names => by_one(method, "GET", Ask::List),
         Place::Document { name, part } => asked_of(name, part, method),
+        Place::View { name, view } => by_one(method, "GET", Ask::View(name, view)),
     }
 }
 

@@ -2,7 +2,7 @@
 ghost use Rattle.std.specs.Prelude.{codes};
 ghost use Rattle.route_core.specs.declared.place.Part.TheVariants.{Whole, Snapshot, Patches, Reference};
 ghost use Rattle.route_core.specs.Laws.{PathNames, NamesNothing};
-ghost use Rattle.route_core.specs.Place.{check, names, document};
+ghost use Rattle.route_core.specs.Place.{check, names, document, view};
 
 /// Some paths and what they name, computed from the routes.
 pub fn paths_have_places()
@@ -12,6 +12,7 @@ pub fn paths_have_places()
     ensures snapshot { PathNames (codes "/docs/d/snapshot") (document (codes "d") Snapshot) }
     ensures patches { PathNames (codes "/docs/patches/patches") (document (codes "patches") Patches) }
     ensures reference { PathNames (codes "/docs/d/reference") (document (codes "d") Reference) }
+    ensures view { PathNames (codes "/docs/d/views/v.1") (view (codes "d") (codes "v.1")) }
     ensures empty { NamesNothing (codes "") }
     ensures slash_after { NamesNothing (codes "/check/") }
     ensures slash_before { NamesNothing (codes "//check") }
@@ -19,5 +20,7 @@ pub fn paths_have_places()
     ensures no_name_within { NamesNothing (codes "/docs//snapshot") }
     ensures bad_name { NamesNothing (codes "/docs/a.b") }
     ensures escaped { NamesNothing (codes "/docs/%61") }
+    ensures no_view { NamesNothing (codes "/docs/d/views/") }
+    ensures below_view { NamesNothing (codes "/docs/d/views/v/w") }
     ensures other_part { NamesNothing (codes "/docs/d/snapshots") }
 {}

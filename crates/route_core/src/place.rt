@@ -9,6 +9,8 @@ pub enum Place<'p> {
     Names,
     /// A part of the document of that name.
     Document { name: &'p str, part: Part },
+    /// A view of the document of that name.
+    View { name: &'p str, view: &'p str },
 }
 
 /// A part of a document that has a path of its own.

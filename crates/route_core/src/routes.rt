@@ -20,6 +20,7 @@ enum Route {
     Check,
     Names,
     Document(Part),
+    View,
 }
 
 /// The routes of all paths.
@@ -85,6 +86,23 @@ fn place_at<'p>(route: Route, params: &Params<'_, 'p>) -> Option<Place<'p>>
             Some((_, name)) => document_at(name, part),
             None => None,
         },
+        Route::View => view_at(params),
+    }
+}
+
+// The place of a view, by the names of a document and of a view.
+fn view_at<'p>(params: &Params<'_, 'p>) -> Option<Place<'p>>
+    requires { IsTrue (spec.is_plain_path params.now.path.now) }
+    ensures { option_map seen_place result ≡ spec.viewed
+        (map (λ part. part.1) (walk params.now.pattern.now params.now.text.now params.now.path.now params.now.names.now 0 0)) }
+{
+    let mut parts = params.iter();
+    let (_, name) = parts.next()?;
+    let (_, view) = parts.next()?;
+    if is_document_name(name) {
+        Some(Place::View { name, view })
+    } else {
+        None
     }
 }
 
@@ -110,6 +128,7 @@ fn router(alloc: Global) -> Result<Router<Route>, AllocError>
         "/docs/{d}/reference",
         Route::Document(Part::Reference),
     )?;
+    add(&mut router, "/docs/{d}/views/{v}", Route::View)?;
     Ok(router)
 }
 

@@ -1,7 +1,9 @@
-ghost use Rattle.std.specs.Prelude.{◌≡◌, None, IfOk};
+ghost use Rattle.std.specs.Prelude.{◌≡◌, None, IfOk, map};
 ghost use Rattle.snap_core.specs.Value.{IsOrdered};
 ghost use Rattle.snap_core.specs.View.{view};
 ghost use Rattle.snap_json.specs.Loose.{loosely};
+ghost use Rattle.model_syntax.specs.Shown.{behaviour_shown};
+ghost use Rattle.expr_core.specs.Plain.{HavePlainConstants};
 ghost use Rattle.schema_form.specs.Form.{IsWhole};
 ghost use Rattle.schema_read.specs.Schema.{Means, IsFirstOf, IsSchema, IsFirst, Spells, HasFirst};
 ghost use Rattle.schema_read.specs.Refusal.{IfSyntax, IfRefused};
@@ -67,7 +69,8 @@ fn refused(fault: Fault) -> SchemaError
 
 /// The schema that a form means, or its first fault.
 fn schema_of(alloc: Global, form: SchemaForm) -> Result<Schema, SchemaError>
-    requires { IsWhole form }
+    requires whole { IsWhole form }
+    requires plain { HavePlainConstants (map (λ b. (behaviour_shown b).views) form.behaviours) }
     ensures ok { IfOk result (Means form) }
     ensures syntax { IfSyntax result ⊥ }
     ensures refused { IfRefused result

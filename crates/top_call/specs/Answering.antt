@@ -9,7 +9,7 @@ abbrev pub State : Type 0
 State = host.Hosted
 
 abbrev pub start : Schema → State
-start schema = record { types = schema.types; shown = [] }
+start schema = record { schema = schema; shown = [] }
 
 -- a request gets what the host's plain definition says
 abbrev pub replies : Replies State

@@ -13,6 +13,7 @@ returns c = record {
   snapshot = refl;
   patches = refl;
   reference = refl;
+  view = refl;
   empty = refl;
   slash_after = refl;
   slash_before = refl;
@@ -20,5 +21,7 @@ returns c = record {
   no_name_within = refl;
   bad_name = refl;
   escaped = refl;
+  no_view = refl;
+  below_view = refl;
   other_part = refl;
 }

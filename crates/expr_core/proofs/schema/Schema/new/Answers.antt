@@ -35,7 +35,8 @@ invariant_of-result c =
     let i = c.loop-behaviour.behaviour-index in
     let all : take i bs ≡ bs = take_all i bs (rw c.as_slice-behaviour-items.ensures at c.loop-behaviour-test.false) in
     record {
-      ordered = c.requires;
+      ordered = c.requires.ordered;
+      plain = c.requires.plain;
       views = c.loop-behaviour.invariant.views ∙ ap (λ ds. numbering_of (map views_in ds)) all;
       actions = c.loop-behaviour.invariant.actions ∙ ap (λ ds. numbering_of (map actions_in ds)) all;
     }
