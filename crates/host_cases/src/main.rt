@@ -30,6 +30,8 @@ const TABLES: &[&str] = &[
     "office.cases",
     "documents.cases",
     "sequences.cases",
+    "views.cases",
+    "view_sequences.cases",
 ];
 
 /// How many bytes a read takes at most, where a case is run with all of these.
