@@ -1,5 +1,5 @@
 -- Several answers, told one by one.
-use Rattle.std.proofs.Common.{◌≡◌, List, [], ◌∷◌, map, refl, ap, ◌∙◌, sym}
+use Rattle.std.proofs.Common.{◌≡◌, List, [], ◌∷◌, map, refl, ap, ◌∙◌}
 use Rattle.snap_core.specs.Value.{Value, part}
 use Rattle.snap_core.specs.View.{view, parts_of, items_view}
 use Rattle.snap_core.specs.declared.snap.Snap.{Snap}
