@@ -1,5 +1,4 @@
 -- What tells a plain answer is plain.
-use Rattle.std.proofs.Common.{List}
 use Rattle.snap_core.specs.Value.{IsPlain, ArePlain}
 use Rattle.snap_core.specs.declared.number.NodeNo.{NodeNo}
 use Rattle.pointer_core.specs.Path.{Path}

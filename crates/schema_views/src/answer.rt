@@ -56,20 +56,24 @@ fn values_are_plain(tree: &Tree, schema: &Schema)
 
 #[cycle(show)]
 fn show_answer(alloc: Global, tree: &Tree, answer: Value) -> Result<Snap, AllocError>
-    ensures shown { IfOk result (λ shown. view shown ≡ answer_value (path_in (state tree.now).tree) (answer_of answer)) }
+    ensures { IfOk result (λ shown. view shown ≡ answer_value (path_in (state tree.now).tree) (answer_of answer)) }
 {
     match answer {
         Value::Plain(value) => only(alloc, "plain", value),
         Value::Node(n) => only(alloc, "node", Snap::Text(path_of(alloc, tree, n)?)),
         Value::Several(answers) => {
-            only(alloc, "several", Snap::List(show_answers(alloc, tree, answers)?))
+            only(
+                alloc,
+                "several",
+                Snap::List(show_answers(alloc, tree, answers)?),
+            )
         }
     }
 }
 
 #[cycle(show)]
 fn show_answers(alloc: Global, tree: &Tree, answers: Values) -> Result<Parts<Snap>, AllocError>
-    ensures shown { IfOk result (λ shown. items_view shown ≡ answer_values (path_in (state tree.now).tree) (answers_of answers)) }
+    ensures { IfOk result (λ shown. items_view shown ≡ answer_values (path_in (state tree.now).tree) (answers_of answers)) }
 {
     let mut shown = Parts::new(alloc);
     for answer in answers.into_vec() {
@@ -80,7 +84,7 @@ fn show_answers(alloc: Global, tree: &Tree, answers: Values) -> Result<Parts<Sna
 
 // A record of one entry.
 fn only(alloc: Global, key: &str, value: Snap) -> Result<Snap, AllocError>
-    ensures shown { IfOk result (λ made. view made ≡ only key.now (view value)) }
+    ensures { IfOk result (λ made. view made ≡ only key.now (view value)) }
 {
     let mut fields = Parts::new(alloc);
     fields.push(Field {

@@ -18,4 +18,4 @@ show_answers-returns t c =
     let ended = YieldsList-end yields c.loop-answer.yielded c.loop-answer.answer-iterator c.loop-answer.yielded_by c.next.result c.next.new.self c.in-None.is c.next.ensures.steps in
     let whole : c.loop-answer.yielded ≡ c.args.answers = sym (map-id c.loop-answer.yielded) ∙ ended.0 ∙ c.into_vec-answer-items.ensures in
     let P : List Value → Type 0 = λ xs. map view c.loop-answer.shown ≡ map (told_by path) xs in
-    record { shown = all-told path c.args.answers c.loop-answer.shown (subst P whole c.loop-answer.invariant) }
+    all-told path c.args.answers c.loop-answer.shown (subst P whole c.loop-answer.invariant)
