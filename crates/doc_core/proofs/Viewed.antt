@@ -41,7 +41,7 @@ along None path place h = cc
 
 -- the view of a name at a place that a pointer names
 module _ (types : Catalog) (views : List (List ShownView)) (path : Path) (name : List ℕ) (root : Labelled) (place : Place) (at : place_at path root ≡ Ok place)
-  (q : Asked) (there : Some q ≡ view_there types views name place root) where
+    (q : Asked) (there : Some q ≡ view_there types views name place root) where
   viewed-there : viewed types views path name root ≡ answered types views q root
   viewed-there =
       let next : Option Asked → Outcome Value = λ o. or_refuse o (path ++ name ∷ []) rule.Unknown >>= (λ x. answered types views x root) in

@@ -1,4 +1,4 @@
-use Rattle.std.proofs.Common.{◌≡◌, ℕ, ◌+◌, ◌≤◌, sym, subst}
+use Rattle.std.proofs.Common.{ℕ, ◌+◌, ◌≤◌, sym, subst}
 use Rattle.expr_core.specs.Schema.{views_of}
 use Rattle.live_tree.specs.Contents.{state}
 use Rattle.schema_views.specs.Locating.{asked_of}
