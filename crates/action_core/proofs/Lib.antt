@@ -1,0 +1,6 @@
+mod Office
+mod Actions
+mod ExamplesTaking
+mod ExamplesActions
+mod ExamplesMiddleware
+mod ExamplesRefused

@@ -1,0 +1,104 @@
+-- What running comes to, and how runs are put together.
+use Rattle.std.specs.Prelude.{ℕ, List, [], ◌∷◌, ◌++◌, Ok, Err}
+use Rattle.pointer_core.specs.Path.{Path}
+use Rattle.pointer_core.specs.declared.refusal.Rule.{Rule}
+use Rattle.type_core.specs.Making.{Refused, Outcome}
+use Rattle.edit_core.specs.Labelled.{Labelled}
+use Rattle.edit_core.specs.Logged.{LoggedEdit, after_logged}
+use Rattle.tree_core.specs.Changed.{Changed}
+use Rattle.tree_core.specs.Outcome.{refuse}
+use Rattle.tree_core.specs.Writing.{Tree}
+use Rattle.eval_core.specs.Run.{Run, Entered}
+
+-- an edit that was made, and the snapshot before it
+pub record Tried : Type 0 where
+  pub before : Labelled
+  pub edit : LoggedEdit
+
+-- a statement or a condition whose expressions were evaluated: how many of its own were counted, and which views were
+-- entered
+pub record Met : Type 0 where
+  pub own : ℕ
+  pub entered : List Entered
+
+-- What a request has come to.
+pub record State : Type 0 where
+  -- the snapshot with its labels, and a number above all that nodes had
+  pub tree : Tree
+  -- the edits that led to it from the snapshot before the request
+  pub kept : List LoggedEdit
+  -- all edits that were made, those that were taken back included
+  pub tried : List Tried
+  -- how many statements were run
+  pub counted : ℕ
+  pub met : List Met
+
+-- what a request begins with
+abbrev pub state_of : Tree → State
+state_of tree = record { tree = tree; kept = []; tried = []; counted = 0; met = [] }
+
+-- the edits, each with the snapshot before it
+abbrev pub tried_from : Labelled → List LoggedEdit → List Tried
+tried_from x [] = []
+tried_from x (e ∷ es) = record { before = x; edit = e } ∷ tried_from (after_logged e x) es
+
+abbrev pub with_change : Changed → State → State
+with_change c s = record s {
+  tree = record { root = c.value; next = c.next };
+  kept = s.kept ++ c.edits;
+  tried = s.tried ++ tried_from s.tree.root c.edits;
+}
+
+abbrev pub with_met : {A : Type 0} → Run A → State → State
+with_met run s = record s { met = s.met ++ record { own = run.own; entered = run.entered } ∷ [] }
+
+-- What was done since an earlier state is taken back. No number is given out twice, so the next number stays.
+abbrev pub taken_back : State → State → State
+taken_back earlier now = record now { tree = record { root = earlier.tree.root; next = now.tree.next }; kept = earlier.kept }
+
+-- What running comes to: an outcome, and the state that it leaves, also where it is refused.
+pub record Ran (A : Type 0) : Type 0 where
+  pub outcome : Outcome A
+  pub state : State
+
+abbrev pub Act : Type 0 → Type 0
+Act A = State → Ran A
+
+-- an outcome that leaves all as it is
+unfoldable pub tells : {A : Type 0} → Outcome A → Act A
+tells outcome s = record { outcome = outcome; state = s }
+
+abbrev pub gives : {A : Type 0} → A → Act A
+gives x = tells (Ok x)
+
+abbrev pub refuses : {A : Type 0} → Path → Rule → Act A
+refuses path rule = tells (refuse path rule)
+
+-- what is said of the snapshot as it is
+unfoldable pub looks : {A : Type 0} → (Labelled → Outcome A) → Act A
+looks said s = record { outcome = said s.tree.root; state = s }
+
+abbrev pub continued : {A B : Type 0} → State → (A → Act B) → Outcome A → Ran B
+continued s next (Ok x) = next x s
+continued s next (Err e) = record { outcome = Err e; state = s }
+
+-- one run, and with what it gives another one; a refusal ends both
+infixl 10 ◌>>=◌
+unfoldable pub ◌>>=◌ : {A B : Type 0} → Act A → (A → Act B) → Act B
+◌>>=◌ first next s = let ran = first s in continued ran.state next ran.outcome
+
+abbrev pub instead : {A : Type 0} → State → (Refused → Act A) → Outcome A → Ran A
+instead s other (Ok x) = record { outcome = Ok x; state = s }
+instead s other (Err e) = other e s
+
+-- one run, and where it is refused another one, by the refusal; what the first one wrote stays
+unfoldable pub or_else : {A : Type 0} → (Refused → Act A) → Act A → Act A
+or_else other first s = let ran = first s in instead ran.state other ran.outcome
+
+abbrev pub unless_refused : {A : Type 0} → State → State → Outcome A → Ran A
+unless_refused earlier now (Ok x) = record { outcome = Ok x; state = now }
+unless_refused earlier now (Err e) = record { outcome = Err e; state = taken_back earlier now }
+
+-- a run that is taken back where it ends refused
+unfoldable pub all_or_nothing : {A : Type 0} → Act A → Act A
+all_or_nothing act s = let ran = act s in unless_refused s ran.state ran.outcome

@@ -1,0 +1,9 @@
+pub mod Taking
+pub mod Giving
+pub mod Act
+pub mod Behaving
+pub mod Statements
+pub mod Running
+pub mod Layers
+pub mod Beginning
+pub mod Calling
