@@ -6,6 +6,7 @@ use Rattle.snap_core.specs.declared.number.NodeNo.{NodeNo}
 use Rattle.pointer_core.specs.declared.refusal.Rule.TheVariants as rule
 use Rattle.patch_core.specs.declared.patch.Patch.{Patch}
 use Rattle.type_core.specs.Making.{Outcome}
+use Rattle.edit_core.specs.Labelled.{Labelled}
 use Rattle.edit_core.specs.Rules.{added, removed, replaced}
 use Rattle.edit_core.specs.Logged.{patch_of_logged}
 use Rattle.tree_core.specs.declared.place.Place.{Place}
@@ -14,14 +15,17 @@ use Rattle.tree_core.specs.Changed.{Changed}
 use Rattle.tree_core.specs.Outcome.{refuse}
 use Rattle.tree_core.specs.Reading.{path_to}
 use Rattle.tree_core.specs.Writing.{Tree}
-use Rattle.eval_core.specs.Answer.{Answer, Answers, plain, node, several}
+use Rattle.eval_core.specs.Answer.{Answer, Answers, plain, node, several, no_answers, answer}
 use Rattle.action_core.specs.Giving as specs
 use Rattle.action_core.specs.Giving.{Giving, sets, inserts}
 use Rattle.action_core.proofs.Office.{types, number, items, call, post, one_todo, two_todos}
-use Rattle.action_core.proofs.Actions.{given}
 
 abbrev the : ℕ → Answer
 the n = node (number n)
+
+abbrev given : List Answer → Answers
+given [] = no_answers
+given (x ∷ xs) = answer x (given xs)
 
 -- a list of answers
 abbrev all_of : List Answer → Answer
@@ -30,6 +34,11 @@ all_of xs = several (given xs)
 abbrev patches : Outcome Changed → Outcome (List Patch)
 patches (Ok c) = Ok (map patch_of_logged c.edits)
 patches (Err e) = Err e
+
+-- the tree after it
+abbrev after : Outcome Changed → Labelled
+after (Ok c) = c.value
+after (Err e) = one_todo.root
 
 abbrev by : List NodeNo → Place → Giving → Tree → Outcome Changed
 by running place giving tree = specs.given types (record { running = running; place = place; named = None }) giving tree
@@ -74,12 +83,7 @@ same-todo : on_root (Prop (number 0) (codes "todos")) (sets (all_of (the 3 ∷ p
     ≡ Ok (removed (codes "todos" ∷ decimal 0 ∷ []) call ∷ added (codes "todos" ∷ decimal 0 ∷ []) call ∷ added (codes "todos" ∷ decimal 1 ∷ []) post ∷ [])
 same-todo = refl
 
-same-node : map (λ (c : Changed). path_to 3 c.value) (kept (by (number 0 ∷ []) (Prop (number 0) (codes "todos")) (sets (all_of (the 3 ∷ plain post ∷ []))) one_todo))
-    ≡ Some (codes "todos" ∷ decimal 0 ∷ []) ∷ []
-  where
-    kept : Outcome Changed → List Changed
-    kept (Ok c) = c ∷ []
-    kept (Err e) = []
+same-node : path_to 3 (after (by (number 0 ∷ []) (Prop (number 0) (codes "todos")) (sets (all_of (the 3 ∷ plain post ∷ []))) one_todo)) ≡ Some (codes "todos" ∷ decimal 0 ∷ [])
 same-node = refl
 
 -- nothing changes where each item is the one that stands there, and where the node itself is set or applied

@@ -21,7 +21,6 @@ use Rattle.tree_core.specs.Outcome.{◌>>=◌, refuse, or_refuse, seen_from}
 use Rattle.tree_core.specs.Changed.{Changed}
 use Rattle.tree_core.specs.Write.{Write, set, insert, remove}
 use Rattle.tree_core.specs.Writing.{Tree, Target, written, node_no, place_tokens, path_of}
-use Rattle.tree_reading.specs.Held.{place_key}
 use Rattle.eval_core.specs.Answer.{Answer}
 use Rattle.action_core.specs.Taking.{Taking, Aim, plain_in, fault_in, answer_made}
 
@@ -52,7 +51,9 @@ whole_type table kind t = length table.shapes
 -- a place of a node, by the type of the node's own place
 abbrev pub type_of_place : Table → Labelled → ℕ → Place → ℕ
 type_of_place table node t (place.Whole n) = whole_type table (kind_in (label_of node)) t
-type_of_place table node t place = part_type (typing_of table) node (place_key place)
+type_of_place table node t (place.Prop n name) = part_type (typing_of table) node name
+type_of_place table node t (place.Item n i) = part_type (typing_of table) node []
+type_of_place table node t (place.Key n key) = part_type (typing_of table) node key
 
 -- a node of a tree, with the way to it
 pub record Site : Type 0 where
