@@ -1,5 +1,5 @@
 -- The actions of an office, for examples.
-use Rattle.std.proofs.Common.{ℕ, List, [], ◌∷◌, Option, Some, None, true, pos, map}
+use Rattle.std.proofs.Common.{ℕ, List, [], ◌∷◌, Option, Some, None, true, false, pos, map}
 use Rattle.std.specs.Prelude.{codes, find, ◌==◌, if◌then◌else◌}
 use Rattle.std.specs.Str.{bytes_eq}
 use Rattle.snap_core.specs.Value.{null, boolean, integer, text}

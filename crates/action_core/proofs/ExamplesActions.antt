@@ -8,7 +8,7 @@ use Rattle.tree_core.specs.Outcome.{refuse}
 use Rattle.tree_core.specs.Reading.{path_to}
 use Rattle.eval_core.specs.Answer.{plain, node}
 use Rattle.eval_core.specs.Run.{lift, looks, counts, joined, ended, andthen, enters}
-use Rattle.view_engine.specs.TreeSight.{sight_of}
+use Rattle.action_core.specs.Stand.{sight_of}
 use Rattle.action_core.specs.Act as act
 use Rattle.action_core.specs.Act.{tells, ◌>>=◌, or_else, all_or_nothing}
 use Rattle.action_core.specs.Behaving as behaving

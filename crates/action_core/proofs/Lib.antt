@@ -3,4 +3,3 @@ mod Actions
 mod ExamplesTaking
 mod ExamplesActions
 mod ExamplesMiddleware
-mod ExamplesRefused
