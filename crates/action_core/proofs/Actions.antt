@@ -12,7 +12,8 @@ use Rattle.expr_syntax.specs.ShownStatements.{statements}
 use Rattle.model_syntax.specs.declared.behaviour.Param.{Param}
 use Rattle.model_syntax.specs.declared.behaviour.Surrounded.{Surrounded}
 use Rattle.model_syntax.specs.Shown.{ShownAction, ShownMiddleware, atomic, protect}
-use Rattle.edit_core.specs.Logged.{patch_of_logged}
+use Rattle.tree_core.specs.Recorded as recorded
+use Rattle.tree_core.specs.State.{patches_of}
 use Rattle.tree_core.specs.Writing.{Tree}
 use Rattle.eval_core.specs.Answer.{Answer, Answers, plain, no_answers, answer}
 use Rattle.eval_core.specs.Scope.{Viewing, property}
@@ -109,14 +110,14 @@ given (x ∷ xs) = answer x (given xs)
 
 -- an action of a node is called on a tree
 abbrev pub called : Tree → ℕ → List ℕ → List Answer → Ran (Unit {0})
-called tree n name xs = acted behaving (record { node = number n; name = name; given = given xs }) (state_of tree)
+called tree n name xs = acted behaving (record { node = number n; name = name; given = given xs }) (state_of (recorded.state_of tree))
 
 -- the outcome, and the patches that were kept
 abbrev pub Shown : Type 0
 Shown = Outcome (Unit {0}) × List Patch
 
 abbrev pub shown : Ran (Unit {0}) → Shown
-shown ran = (ran.outcome, map patch_of_logged ran.state.kept)
+shown ran = (ran.outcome, patches_of ran.state.tree)
 
 abbrev pub answered : Tree → ℕ → List ℕ → List Answer → Shown
 answered tree n name xs = shown (called tree n name xs)

@@ -5,6 +5,7 @@ use Rattle.snap_core.specs.Value.{boolean, integer, text}
 use Rattle.pointer_core.specs.declared.refusal.Rule.TheVariants as rule
 use Rattle.edit_core.specs.Rules.{replaced}
 use Rattle.tree_core.specs.Outcome.{refuse}
+use Rattle.tree_core.specs.Recorded.{state_of}
 use Rattle.eval_core.specs.Run.{lift, looks, counts, joined, ended, andthen, enters}
 use Rattle.action_core.specs.Stand.{sight_of}
 use Rattle.action_core.specs.Act as act
@@ -19,8 +20,8 @@ atomic-mess : answered one_todo 0 (codes "messAtomic") [] ≡ (refuse (codes "me
 unfolding lift looks counts joined ended andthen enters sight_of tells act.looks ◌>>=◌ or_else all_or_nothing evaluates writes behaving.counts
 atomic-mess = refl
 
--- the snapshot is as before, with its labels; two edits were tried, and three statements run
-atomic-mess-tree : (called one_todo 0 (codes "messAtomic") []).state.tree ≡ one_todo
+-- the tree is as before, with its labels; two edits were tried, and three statements run
+atomic-mess-tree : (called one_todo 0 (codes "messAtomic") []).state.tree ≡ state_of one_todo
 unfolding lift looks counts joined ended andthen enters sight_of tells act.looks ◌>>=◌ or_else all_or_nothing evaluates writes behaving.counts
 atomic-mess-tree = refl
 

@@ -3,3 +3,4 @@ mod Actions
 mod ExamplesTaking
 mod ExamplesActions
 mod ExamplesMiddleware
+mod ExamplesRefused

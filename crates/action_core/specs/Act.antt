@@ -7,7 +7,8 @@ use Rattle.edit_core.specs.Labelled.{Labelled}
 use Rattle.edit_core.specs.Logged.{LoggedEdit, after_logged}
 use Rattle.tree_core.specs.Changed.{Changed}
 use Rattle.tree_core.specs.Outcome.{refuse}
-use Rattle.tree_core.specs.Writing.{Tree}
+use Rattle.tree_core.specs.Recorded as recorded
+use Rattle.tree_core.specs.State.{State as Tree}
 use Rattle.eval_core.specs.Run.{Run, Entered}
 
 -- an edit that was made, and the snapshot before it
@@ -23,10 +24,8 @@ pub record Met : Type 0 where
 
 -- What a request has come to.
 pub record State : Type 0 where
-  -- the snapshot with its labels, and a number above all that nodes had
+  -- the tree: its labelled snapshot, the next number, and the edits that were made since the request began and kept
   pub tree : Tree
-  -- the edits that led to it from the snapshot before the request
-  pub kept : List LoggedEdit
   -- all edits that were made, those that were taken back included
   pub tried : List Tried
   -- how many statements were run
@@ -35,7 +34,11 @@ pub record State : Type 0 where
 
 -- what a request begins with
 abbrev pub state_of : Tree → State
-state_of tree = record { tree = tree; kept = []; tried = []; counted = 0; met = [] }
+state_of tree = record { tree = tree; tried = []; counted = 0; met = [] }
+
+-- the labelled snapshot
+abbrev pub root_of : State → Labelled
+root_of s = s.tree.tree
 
 -- the edits, each with the snapshot before it
 abbrev pub tried_from : Labelled → List LoggedEdit → List Tried
@@ -43,18 +46,15 @@ tried_from x [] = []
 tried_from x (e ∷ es) = record { before = x; edit = e } ∷ tried_from (after_logged e x) es
 
 abbrev pub with_change : Changed → State → State
-with_change c s = record s {
-  tree = record { root = c.value; next = c.next };
-  kept = s.kept ++ c.edits;
-  tried = s.tried ++ tried_from s.tree.root c.edits;
-}
+with_change c s = record s { tree = recorded.with_change c s.tree; tried = s.tried ++ tried_from (root_of s) c.edits }
 
 abbrev pub with_met : {A : Type 0} → Run A → State → State
 with_met run s = record s { met = s.met ++ record { own = run.own; entered = run.entered } ∷ [] }
 
--- What was done since an earlier state is taken back. No number is given out twice, so the next number stays.
-abbrev pub taken_back : State → State → State
-taken_back earlier now = record now { tree = record { root = earlier.tree.root; next = now.tree.next }; kept = earlier.kept }
+-- The snapshot and the edits that are kept are again those of an earlier tree. No number is given out twice, so the next
+-- number stays.
+abbrev pub taken_back : Tree → State → State
+taken_back earlier now = record now { tree = record { tree = earlier.tree; next = now.tree.next; calls = earlier.calls } }
 
 -- What running comes to: an outcome, and the state that it leaves, also where it is refused.
 pub record Ran (A : Type 0) : Type 0 where
@@ -76,7 +76,7 @@ refuses path rule = tells (refuse path rule)
 
 -- what is said of the snapshot as it is
 unfoldable pub looks : {A : Type 0} → (Labelled → Outcome A) → Act A
-looks said s = record { outcome = said s.tree.root; state = s }
+looks said s = record { outcome = said (root_of s); state = s }
 
 abbrev pub continued : {A B : Type 0} → State → (A → Act B) → Outcome A → Ran B
 continued s next (Ok x) = next x s
@@ -95,10 +95,10 @@ instead s other (Err e) = other e s
 unfoldable pub or_else : {A : Type 0} → (Refused → Act A) → Act A → Act A
 or_else other first s = let ran = first s in instead ran.state other ran.outcome
 
-abbrev pub unless_refused : {A : Type 0} → State → State → Outcome A → Ran A
+abbrev pub unless_refused : {A : Type 0} → Tree → State → Outcome A → Ran A
 unless_refused earlier now (Ok x) = record { outcome = Ok x; state = now }
 unless_refused earlier now (Err e) = record { outcome = Err e; state = taken_back earlier now }
 
 -- a run that is taken back where it ends refused
 unfoldable pub all_or_nothing : {A : Type 0} → Act A → Act A
-all_or_nothing act s = let ran = act s in unless_refused s ran.state ran.outcome
+all_or_nothing act s = let ran = act s in unless_refused s.tree ran.state ran.outcome

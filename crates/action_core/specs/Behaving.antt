@@ -13,6 +13,7 @@ use Rattle.edit_core.specs.Labelled.{Labelled}
 use Rattle.tree_core.specs.Changed.{Changed}
 use Rattle.tree_core.specs.Outcome.{refuse}
 use Rattle.tree_core.specs.Reading.{path_to}
+use Rattle.tree_core.specs.Recorded.{tree_in}
 use Rattle.tree_core.specs.Writing.{Tree}
 use Rattle.eval_core.specs.Answer.{Answer, Answers, plain, node, several}
 use Rattle.eval_core.specs.Asking.{frame_scope}
@@ -21,7 +22,7 @@ use Rattle.eval_core.specs.Scope.{Scope, Viewing}
 use Rattle.eval_core.specs.Sight.{Sight}
 use Rattle.action_core.specs.Stand.{sight_of}
 use Rattle.action_core.specs.Stand as views
-use Rattle.action_core.specs.Act.{State, Ran, Act, refuses, with_change, with_met}
+use Rattle.action_core.specs.Act.{State, Ran, Act, root_of, refuses, with_change, with_met}
 
 -- what a schema says: its types, its views, and the actions and the middleware of each model
 pub record Behaving : Type 0 where
@@ -69,7 +70,7 @@ run_told t run s = record { outcome = told t run.outcome; state = with_met run s
 -- the expressions of one statement or of one condition, evaluated from nothing and counted together
 unfoldable pub evaluates : {A : Type 0} → Behaving → Path → (Scope → Eval A) → Act A
 evaluates behaving frame eval s =
-    let sight : Sight = sight_in behaving s.tree.root in
+    let sight : Sight = sight_in behaving (root_of s) in
     let run = eval (frame_scope behaving.viewing sight) 0 in
     run_told (record { sight = sight; name_of = behaving.name_of; frame = frame }) run s
 
@@ -91,7 +92,7 @@ changed_to s (Err e) = record { outcome = Err e; state = s }
 
 -- one change of the tree, recorded
 unfoldable pub writes : Path → (Tree → Outcome Changed) → Act (Unit {0})
-writes frame change s = changed_to s (in_frame frame (change s.tree))
+writes frame change s = changed_to s (in_frame frame (change (tree_in s.tree)))
 
 -- Counting.
 
