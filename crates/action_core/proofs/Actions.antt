@@ -1,5 +1,5 @@
 -- The actions of an office, for examples.
-use Rattle.std.proofs.Common.{ℕ, List, [], ◌∷◌, Option, Some, None, true, false, pos, map}
+use Rattle.std.proofs.Common.{ℕ, List, [], ◌∷◌, Some, None, true, false, pos}
 use Rattle.std.specs.Prelude.{codes, find, ◌==◌, if◌then◌else◌}
 use Rattle.std.specs.Str.{bytes_eq}
 use Rattle.snap_core.specs.Value.{null, boolean, integer, text}
@@ -7,7 +7,7 @@ use Rattle.snap_core.specs.declared.number.ModelNo.{ModelNo}
 use Rattle.patch_core.specs.declared.patch.Patch.{Patch}
 use Rattle.type_core.specs.Making.{Outcome}
 use Rattle.expr_syntax.specs.declared.op.Op.{Op}
-use Rattle.expr_syntax.specs.Syntax.{Expression, Members, Statement, Statements, constant, variable, own, two_sided, make, member, no_members, no_more, set, push, drop, each, call, attempt, throw}
+use Rattle.expr_syntax.specs.Syntax.{Expression, Members, Statement, constant, variable, own, two_sided, make, member, no_members, no_more, set, push, drop, each, call, attempt, throw}
 use Rattle.expr_syntax.specs.ShownStatements.{statements}
 use Rattle.model_syntax.specs.declared.behaviour.Param.{Param}
 use Rattle.model_syntax.specs.declared.behaviour.Surrounded.{Surrounded}
@@ -15,9 +15,9 @@ use Rattle.model_syntax.specs.Shown.{ShownAction, ShownMiddleware, atomic, prote
 use Rattle.tree_core.specs.Recorded as recorded
 use Rattle.tree_core.specs.State.{patches_of}
 use Rattle.tree_core.specs.Writing.{Tree}
-use Rattle.eval_core.specs.Answer.{Answer, Answers, plain, no_answers, answer}
+use Rattle.eval_core.specs.Answer.{Answer, Answers, no_answers, answer}
 use Rattle.eval_core.specs.Scope.{Viewing, property}
-use Rattle.action_core.specs.Act.{State, Ran, state_of}
+use Rattle.action_core.specs.Act.{Ran, state_of}
 use Rattle.action_core.specs.Behaving.{Behaving}
 use Rattle.action_core.specs.Calling.{acted}
 use Rattle.action_core.proofs.Office.{type, number, types}

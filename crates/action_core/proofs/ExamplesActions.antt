@@ -1,20 +1,19 @@
 -- Actions that run statements, call others, and are refused, computed on an office.
-use Rattle.std.proofs.Common.{◌≡◌, ℕ, List, [], ◌∷◌, None, Some, Ok, Err, pos, decimal, refl}
+use Rattle.std.proofs.Common.{◌≡◌, [], ◌∷◌, Ok, pos, decimal, refl}
 use Rattle.std.specs.Prelude.{codes}
 use Rattle.snap_core.specs.Value.{integer, text}
 use Rattle.pointer_core.specs.declared.refusal.Rule.TheVariants as rule
 use Rattle.edit_core.specs.Rules.{added, removed, replaced}
 use Rattle.tree_core.specs.Outcome.{refuse}
-use Rattle.tree_core.specs.Reading.{path_to}
-use Rattle.eval_core.specs.Answer.{plain, node}
+use Rattle.eval_core.specs.Answer.{plain}
 use Rattle.eval_core.specs.Run.{lift, looks, counts, joined, ended, andthen, enters}
-use Rattle.action_core.specs.Stand.{sight_of}
+use Rattle.view_engine.specs.TreeSight.{sight_of}
 use Rattle.action_core.specs.Act as act
 use Rattle.action_core.specs.Act.{tells, ◌>>=◌, or_else, all_or_nothing}
 use Rattle.action_core.specs.Behaving as behaving
 use Rattle.action_core.specs.Behaving.{evaluates, writes}
-use Rattle.action_core.proofs.Office.{number, post, call, todo, user, one_todo, two_todos}
-use Rattle.action_core.proofs.Actions.{Shown, called, shown, answered}
+use Rattle.action_core.proofs.Office.{call, todo, one_todo, two_todos}
+use Rattle.action_core.proofs.Actions.{called, answered}
 
 -- a todo is added
 add-todo : answered one_todo 0 (codes "addTodo") (plain (text (codes "t2")) ∷ plain (text (codes "u1")) ∷ [])
@@ -35,8 +34,10 @@ blame-all = refl
 
 -- an action that throws keeps what it wrote
 mess : answered one_todo 0 (codes "mess") []
-    ≡ (refuse (codes "mess" ∷ []) (rule.Thrown (codes "stop")),
-    replaced (codes "count" ∷ []) (integer (pos 0)) (integer (pos 1)) ∷ replaced (codes "count" ∷ []) (integer (pos 1)) (integer (pos 2)) ∷ [])
+    ≡ (
+      refuse (codes "mess" ∷ []) (rule.Thrown (codes "stop")),
+      replaced (codes "count" ∷ []) (integer (pos 0)) (integer (pos 1)) ∷ replaced (codes "count" ∷ []) (integer (pos 1)) (integer (pos 2)) ∷ [],
+    )
 unfolding lift looks counts joined ended andthen enters sight_of tells act.looks ◌>>=◌ or_else all_or_nothing evaluates writes behaving.counts
 mess = refl
 

@@ -1,5 +1,5 @@
 -- Actions with middleware around them, computed on an office.
-use Rattle.std.proofs.Common.{◌≡◌, ℕ, List, [], ◌∷◌, true, false, None, Some, Ok, Err, pos, decimal, map, length, refl}
+use Rattle.std.proofs.Common.{◌≡◌, [], ◌∷◌, true, false, Ok, pos, decimal, length, refl}
 use Rattle.std.specs.Prelude.{codes}
 use Rattle.snap_core.specs.Value.{boolean, integer, text}
 use Rattle.pointer_core.specs.declared.refusal.Rule.TheVariants as rule
@@ -7,7 +7,7 @@ use Rattle.edit_core.specs.Rules.{replaced}
 use Rattle.tree_core.specs.Outcome.{refuse}
 use Rattle.tree_core.specs.Recorded.{state_of}
 use Rattle.eval_core.specs.Run.{lift, looks, counts, joined, ended, andthen, enters}
-use Rattle.action_core.specs.Stand.{sight_of}
+use Rattle.view_engine.specs.TreeSight.{sight_of}
 use Rattle.action_core.specs.Act as act
 use Rattle.action_core.specs.Act.{tells, ◌>>=◌, or_else, all_or_nothing}
 use Rattle.action_core.specs.Behaving as behaving

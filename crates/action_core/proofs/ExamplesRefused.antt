@@ -1,11 +1,11 @@
 -- The first rule that a statement or a call doesn't meet, and its place, computed on an office.
-use Rattle.std.proofs.Common.{◌≡◌, ℕ, List, [], ◌∷◌, true, false, None, Some, Ok, Err, pos, negsuc, decimal, map, refl}
+use Rattle.std.proofs.Common.{◌≡◌, ℕ, List, [], ◌∷◌, true, Ok, pos, negsuc, decimal, refl}
 use Rattle.std.specs.Prelude.{codes}
 use Rattle.snap_core.specs.Value.{null, boolean, integer, text, dict, no_members, member}
 use Rattle.pointer_core.specs.Path.{Path}
 use Rattle.pointer_core.specs.declared.refusal.Rule.{Rule}
 use Rattle.pointer_core.specs.declared.refusal.Rule.TheVariants as rule
-use Rattle.edit_core.specs.Rules.{added, removed, replaced}
+use Rattle.edit_core.specs.Rules.{removed, replaced}
 use Rattle.expr_syntax.specs.declared.op.Op.{Op}
 use Rattle.expr_syntax.specs.Syntax.{Expression, Statement, constant, variable, own, get, two_sided, set, put, push, insert, replace, drop, clear, apply, each, call, attempt, throw, no_more, more}
 use Rattle.expr_syntax.specs.Syntax as syntax
@@ -17,14 +17,14 @@ use Rattle.tree_core.specs.Writing.{Tree}
 use Rattle.eval_core.specs.Answer.{Answer, plain, node}
 use Rattle.eval_core.specs.Asking.{bound_at}
 use Rattle.eval_core.specs.Run.{lift, looks, counts, joined, ended, andthen, enters}
-use Rattle.action_core.specs.Stand.{sight_of}
+use Rattle.view_engine.specs.TreeSight.{sight_of}
 use Rattle.action_core.specs.Act as act
 use Rattle.action_core.specs.Act.{State, Ran, state_of, root_of, tells, ◌>>=◌, or_else, all_or_nothing}
 use Rattle.action_core.specs.Behaving as behaving
 use Rattle.action_core.specs.Behaving.{Running, sight_in, evaluates, writes}
 use Rattle.action_core.specs.Running.{ran_block}
 use Rattle.action_core.specs.Calling as calling
-use Rattle.action_core.proofs.Office.{types, type, number, office, user, call as to_call, post, ann, one_todo, two_todos}
+use Rattle.action_core.proofs.Office.{types, number, office, user, call as to_call, post, one_todo, two_todos}
 use Rattle.action_core.proofs.Actions as actions
 use Rattle.action_core.proofs.Actions.{Shown, shown, answered}
 

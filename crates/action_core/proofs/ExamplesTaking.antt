@@ -1,7 +1,7 @@
 -- Writing answers that hold nodes, computed on an office.
-use Rattle.std.proofs.Common.{◌≡◌, ℕ, List, [], ◌∷◌, false, None, Some, Ok, Err, pos, decimal, map, refl}
+use Rattle.std.proofs.Common.{◌≡◌, ℕ, List, [], ◌∷◌, None, Some, Ok, Err, decimal, map, refl}
 use Rattle.std.specs.Prelude.{codes}
-use Rattle.snap_core.specs.Value.{Value, null, boolean, integer, text, list, dict, no_members, member}
+use Rattle.snap_core.specs.Value.{null, text, list}
 use Rattle.snap_core.specs.declared.number.NodeNo.{NodeNo}
 use Rattle.pointer_core.specs.declared.refusal.Rule.TheVariants as rule
 use Rattle.patch_core.specs.declared.patch.Patch.{Patch}
@@ -10,7 +10,7 @@ use Rattle.edit_core.specs.Labelled.{Labelled}
 use Rattle.edit_core.specs.Rules.{added, removed, replaced}
 use Rattle.edit_core.specs.Logged.{patch_of_logged}
 use Rattle.tree_core.specs.declared.place.Place.{Place}
-use Rattle.tree_core.specs.declared.place.Place.TheVariants.{Whole, Prop, Item, Key}
+use Rattle.tree_core.specs.declared.place.Place.TheVariants.{Whole, Prop, Item}
 use Rattle.tree_core.specs.Changed.{Changed}
 use Rattle.tree_core.specs.Outcome.{refuse}
 use Rattle.tree_core.specs.Reading.{path_to}

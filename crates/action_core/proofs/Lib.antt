@@ -4,3 +4,4 @@ mod ExamplesTaking
 mod ExamplesActions
 mod ExamplesMiddleware
 mod ExamplesRefused
+pub mod Failing

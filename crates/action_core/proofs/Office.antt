@@ -1,5 +1,5 @@
 -- The types and values of an office with todos and users, for examples.
-use Rattle.std.proofs.Common.{ℕ, List, [], ◌∷◌, false, None, pos}
+use Rattle.std.proofs.Common.{ℕ, List, [], ◌∷◌, false, pos}
 use Rattle.std.specs.Prelude.{codes}
 use Rattle.snap_core.specs.Value.{Value, null, boolean, integer, text, list, dict, no_parts, part, no_members, member, Items, Fields}
 use Rattle.snap_core.specs.declared.number.TypeNo.{TypeNo}

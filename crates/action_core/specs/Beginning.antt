@@ -26,7 +26,6 @@ use Rattle.eval_core.specs.Scope.{Env}
 use Rattle.eval_core.specs.Sight.{Sight}
 use Rattle.action_core.specs.Taking.{plain_in}
 use Rattle.action_core.specs.Behaving.{Behaving, Callee, node_path, sight_in}
-use Rattle.action_core.specs.Layers.{Layer, layers_of}
 
 -- Arguments, each by the type of its parameter.
 
@@ -92,10 +91,9 @@ all_reached sight (b ∷ bs) = option_and_then (λ x. option_map (λ env. (b.0, 
 
 -- Beginning.
 
--- An action that begins: its frame, the middleware around it, its statements, and the names that are bound in them.
+-- An action that begins: its frame, its statements, and the names that are bound in them.
 pub record Begun : Type 0 where
   pub frame : Path
-  pub layers : List Layer
   pub body : Statements
   pub env : Env
 
@@ -112,4 +110,4 @@ begun_by behaving caller callee root = do
   action ← or_refuse (action_under behaving callee.name kind) frame rule.Unknown
   given ← or_refuse (arguments_of behaving.types root action.params callee.given) frame rule.Arguments
   bound ← or_refuse (all_reached sight given) frame rule.Reference
-  Ok (record { frame = frame; layers = layers_of behaving callee root; body = action.body; env = bound ++ bound_at sight callee.node })
+  Ok (record { frame = frame; body = action.body; env = bound ++ bound_at sight callee.node })

@@ -1,5 +1,5 @@
 -- By what statements run: what a schema says of views and actions, and where an action runs.
-use Rattle.std.specs.Prelude.{ℕ, suc, nat_lt, List, [], ◌++◌, Bool, Option, unwrap_or, Result, Ok, Err, if◌then◌else◌}
+use Rattle.std.specs.Prelude.{ℕ, suc, nat_lt, List, [], Option, unwrap_or, Result, Ok, Err, if◌then◌else◌}
 use Rattle.snap_core.specs.declared.number.ModelNo.{ModelNo}
 use Rattle.snap_core.specs.declared.number.NodeNo.{NodeNo}
 use Rattle.pointer_core.specs.Path.{Path}
@@ -15,13 +15,13 @@ use Rattle.tree_core.specs.Outcome.{refuse}
 use Rattle.tree_core.specs.Reading.{path_to}
 use Rattle.tree_core.specs.Recorded.{tree_in}
 use Rattle.tree_core.specs.Writing.{Tree}
-use Rattle.eval_core.specs.Answer.{Answer, Answers, plain, node, several}
+use Rattle.eval_core.specs.Answer.{Answer, Answers, node}
 use Rattle.eval_core.specs.Asking.{frame_scope}
 use Rattle.eval_core.specs.Run.{Fault, Run, Eval}
 use Rattle.eval_core.specs.Scope.{Scope, Viewing}
 use Rattle.eval_core.specs.Sight.{Sight}
-use Rattle.action_core.specs.Stand.{sight_of}
-use Rattle.action_core.specs.Stand as views
+use Rattle.view_engine.specs.TreeSight.{sight_of}
+use Rattle.view_engine.specs.Told as views
 use Rattle.action_core.specs.Act.{State, Ran, Act, root_of, refuses, with_change, with_met}
 
 -- what a schema says: its types, its views, and the actions and the middleware of each model

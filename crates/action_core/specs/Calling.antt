@@ -1,5 +1,5 @@
 -- Calling an action: what it is refused for before it begins, the middleware around it, and its statements.
-use Rattle.std.specs.Prelude.{ℕ, zero, suc, List, [], ◌∷◌, Bool, if◌then◌else◌}
+use Rattle.std.specs.Prelude.{ℕ, zero, suc, List, [], ◌∷◌, Bool, Ok, if◌then◌else◌}
 use Rattle.snap_core.specs.declared.number.NodeNo.{NodeNo}
 use Rattle.pointer_core.specs.Path.{Path}
 use Rattle.pointer_core.specs.declared.refusal.Rule.TheVariants as rule
@@ -9,8 +9,8 @@ use Rattle.eval_core.specs.Asking.{bound_at}
 use Rattle.eval_core.specs.Run.{andthen}
 use Rattle.eval_core.specs.Evaluating.{evaluated, truth}
 use Rattle.action_core.specs.Act.{Act, ◌>>=◌, refuses, looks, all_or_nothing}
-use Rattle.action_core.specs.Behaving.{Behaving, Running, Callee, Acting, evaluates}
-use Rattle.action_core.specs.Layers.{Layer}
+use Rattle.action_core.specs.Behaving.{Behaving, Running, Callee, evaluates}
+use Rattle.action_core.specs.Layers.{Layer, layers_of}
 use Rattle.action_core.specs.Beginning.{Begun, begun_by}
 use Rattle.action_core.specs.Running.{ran_block}
 
@@ -60,7 +60,8 @@ called behaving zero running callee = do
   refuses begun.frame rule.Calls
 called behaving (suc room) running callee = do
   begun ← looks (begun_by behaving running.frame callee)
-  surrounded behaving begun.frame begun.layers (body_run behaving (called behaving room) running callee.node begun)
+  layers ← looks (λ root. Ok (layers_of behaving callee root))
+  surrounded behaving begun.frame layers (body_run behaving (called behaving room) running callee.node begun)
 
 -- how many actions may run at once
 abbrev pub most_actions : ℕ

@@ -1,5 +1,5 @@
 -- Writing an answer at a place of a tree: nodes are judged once the place is, and before what is made.
-use Rattle.std.specs.Prelude.{ℕ, List, [], ◌∷◌, ◌++◌, length, Bool, true, false, Option, Some, None, Ok, Err, if◌then◌else◌}
+use Rattle.std.specs.Prelude.{ℕ, List, [], ◌++◌, length, Bool, true, false, Option, Some, None, Ok, Err, if◌then◌else◌}
 use Rattle.snap_core.specs.Value.{Value, null}
 use Rattle.pointer_core.specs.Path.{Path}
 use Rattle.pointer_core.specs.declared.refusal.Rule.{Rule}

@@ -1,6 +1,5 @@
 pub mod Taking
 pub mod Giving
-pub mod Stand
 pub mod Act
 pub mod Behaving
 pub mod Statements
@@ -8,3 +7,5 @@ pub mod Running
 pub mod Layers
 pub mod Beginning
 pub mod Calling
+pub mod Keeping
+pub mod Laws

@@ -13,7 +13,7 @@ use Rattle.eval_core.specs.Scope as scope
 use Rattle.eval_core.specs.Walking.{Item, walked, read_item}
 use Rattle.eval_core.specs.Evaluating.{evaluated, all_evaluated, truth}
 use Rattle.action_core.specs.Act.{Act, ◌>>=◌, tells, gives, refuses, looks, or_else}
-use Rattle.action_core.specs.Behaving.{Acting, Callee, evaluates, in_frame, writes, counts, on_node}
+use Rattle.action_core.specs.Behaving.{Acting, evaluates, in_frame, writes, counts, on_node}
 use Rattle.action_core.specs.Statements.{Naming, property_set, entry_put, item_inserted, item_replaced, part_dropped, snapshot_applied, named_written, pushed, removals, place_removed}
 
 -- Parts of a statement, evaluated from left to right.

@@ -7,7 +7,7 @@ use Rattle.snap_core.specs.declared.number.NodeNo.{NodeNo}
 use Rattle.pointer_core.specs.declared.refusal.Rule.{Rule}
 use Rattle.type_table.specs.declared.shape.Shape.{Shape}
 use Rattle.type_table.specs.declared.shape.Shape.TheVariants as shape
-use Rattle.type_table.specs.Table.{Table, Catalog}
+use Rattle.type_table.specs.Table.{Catalog}
 use Rattle.type_core.specs.Making.{Outcome, Maker, mistyped, maker_of, items_made, list_of}
 use Rattle.type_core.specs.Judging.{judged_by}
 use Rattle.edit_core.specs.declared.kind.Kind.TheVariants.{Model}
