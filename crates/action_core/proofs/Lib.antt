@@ -5,3 +5,6 @@ mod ExamplesActions
 mod ExamplesMiddleware
 mod ExamplesRefused
 pub mod Failing
+pub mod Steps
+mod KeptWrites
+pub mod Kept

@@ -101,13 +101,28 @@ abbrev pub action_under : Behaving → List ℕ → Kind → Option ShownAction
 action_under behaving name (Model m) = behaving.action_of m name
 action_under behaving name kind = None
 
+-- the frame of a callee: the path of its node, and its name
+abbrev pub frame_of : Callee → Labelled → Path
+frame_of callee root = node_path callee.node root ++ callee.name ∷ []
+
+-- the arguments bound to the names of the parameters: all are judged by their types before a reference is followed
+abbrev pub arguments_bound : Behaving → Callee → Labelled → ShownAction → Outcome Env
+arguments_bound behaving callee root action = do
+  given ← or_refuse (arguments_of behaving.types root action.params callee.given) (frame_of callee root) rule.Arguments
+  or_refuse (all_reached (sight_in behaving root) given) (frame_of callee root) rule.Reference
+
+abbrev pub action_begun : Behaving → Callee → Labelled → ShownAction → Outcome Begun
+action_begun behaving callee root action = do
+  env ← arguments_bound behaving callee root action
+  Ok (record { frame = frame_of callee root; body = action.body; env = env ++ bound_at (sight_in behaving root) callee.node })
+
+abbrev pub begun_of_kind : Behaving → Callee → Labelled → Kind → Outcome Begun
+begun_of_kind behaving callee root kind = do
+  action ← or_refuse (action_under behaving callee.name kind) (frame_of callee root) rule.Unknown
+  action_begun behaving callee root action
+
 -- What an action that is called is refused for by itself, in the order of the rules; a dead node is told of the caller.
 abbrev pub begun_by : Behaving → Path → Callee → Labelled → Outcome Begun
 begun_by behaving caller callee root = do
   kind ← or_refuse (kind_at callee.node.0 root) caller rule.Dead
-  let frame : Path = node_path callee.node root ++ callee.name ∷ []
-  let sight : Sight = sight_in behaving root
-  action ← or_refuse (action_under behaving callee.name kind) frame rule.Unknown
-  given ← or_refuse (arguments_of behaving.types root action.params callee.given) frame rule.Arguments
-  bound ← or_refuse (all_reached sight given) frame rule.Reference
-  Ok (record { frame = frame; body = action.body; env = bound ++ bound_at sight callee.node })
+  begun_of_kind behaving callee root kind

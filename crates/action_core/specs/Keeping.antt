@@ -1,9 +1,9 @@
 -- What a relation between the state before a run and the one behind it has to keep, so that calling any action keeps it.
 use Rattle.std.specs.Prelude.{◌≡◌, ℕ, suc, List, [], ◌∷◌, Ok, IfOk, IfSome}
 use Rattle.snap_core.specs.declared.number.ModelNo.{ModelNo}
-use Rattle.pointer_core.specs.Path.{Path}
+use Rattle.snap_core.specs.declared.number.NodeNo.{NodeNo}
 use Rattle.expr_syntax.specs.Syntax.{Expression, Expressions, Statement, Statements, no_more, more, set, put, push, insert, replace, drop, clear, apply, each, call, attempt, throw, done, run}
-use Rattle.model_syntax.specs.Shown.{ShownAction, ShownMiddleware, atomic, protect}
+use Rattle.model_syntax.specs.Shown.{ShownAction}
 use Rattle.tree_core.specs.Changed.{Changed}
 use Rattle.tree_core.specs.Recorded.{tree_in}
 use Rattle.tree_core.specs.Writing.{Target}
@@ -12,9 +12,9 @@ use Rattle.eval_core.specs.Asking.{frame_scope, bound_at}
 use Rattle.eval_core.specs.Evaluating.{evaluated}
 use Rattle.eval_core.specs.Run.{Run}
 use Rattle.eval_core.specs.Scope.{Scope, Env}
-use Rattle.action_core.specs.Act.{State, root_of, with_change, with_met, taken_back}
+use Rattle.action_core.specs.Act.{State, Ran, Act, root_of, with_change, with_met, taken_back}
 use Rattle.action_core.specs.Behaving.{Behaving, Callee, sight_in}
-use Rattle.action_core.specs.Beginning.{Begun, begun_by}
+use Rattle.action_core.specs.Beginning.{arguments_bound}
 use Rattle.action_core.specs.Giving.{Giving, given, sets, inserts, removes}
 use Rattle.action_core.specs.Running.{items_read}
 
@@ -64,18 +64,15 @@ abbrev mutual
   AreGood Good done = Unit {0}
   AreGood Good (run st sts) = IsGoodStatement Good st × AreGood Good sts
 
--- a fact of the condition of each middleware
-abbrev pub IsGoodMiddleware : (Expression → Type 0) → ShownMiddleware → Type 0
-IsGoodMiddleware Good (atomic which) = Unit {0}
-IsGoodMiddleware Good (protect which condition) = Good condition
-
-abbrev pub AllGoodMiddleware : (Expression → Type 0) → List ShownMiddleware → Type 0
-AllGoodMiddleware Good [] = Unit {0}
-AllGoodMiddleware Good (m ∷ ms) = IsGoodMiddleware Good m × AllGoodMiddleware Good ms
-
 -- by what the expressions of a state's statements are evaluated
 abbrev pub scope_of : Behaving → State → Scope
 scope_of behaving s = frame_scope behaving.viewing (sight_in behaving (root_of s))
+
+-- What a run comes to: the relation leads to it, and the facts hold.
+pub record IsKept (Rel : State → State → Type 0) (Fit : State → Type 0) {A : Type 0} (P : A → Type 0) (s : State) (ran : Ran A) : Type 0 where
+  pub fit : Fit ran.state
+  pub rel : Rel s ran.state
+  pub fine : IfOk ran.outcome P
 
 -- A relation between states; a fact of each state, one of each answer and one of each expression.
 pub record Keeping : Type 1 where
@@ -84,19 +81,18 @@ pub record Keeping : Type 1 where
   pub Fit : State → Type 0
   pub Fine : Answer → Type 0
   pub Good : Expression → Type 0
-  -- the fact of expressions holds of all that the schema says
+  -- the fact of expressions holds of all that actions run
   pub actions : (m : ModelNo) (name : List ℕ) → IfSome (behaving.action_of m name) (λ (a : ShownAction). AreGood Good a.body)
-  pub middleware : (m : ModelNo) → AllGoodMiddleware Good (behaving.middleware_of m)
   -- the relation leads on
   pub stays : (s : State) → Rel s s
   pub goes_on : (a b c : State) → Rel a b → Rel b c → Rel a c
-  -- what is evaluated is fine, and so is what walking reads and what an action begins with
+  -- what is evaluated is fine, and so is what walking reads, what parameters are bound to, and what is always bound
   pub evaluates : (s : State) → Fit s → (e : Expression) → Good e → (env : Env) → IsFineEnv Fine env → (before : ℕ)
       → IfOk (evaluated (scope_of behaving s) e env before).outcome Fine
   pub walks : (s : State) → Fit s → (x : Answer) → Fine x → (before : ℕ) → IfOk (items_read (scope_of behaving s) x before).outcome (EachFine Fine)
-  pub begins : (s : State) → Fit s → (caller : Path) (callee : Callee) → AreFine Fine callee.given
-      → IfOk (begun_by behaving caller callee (root_of s)) (λ (begun : Begun). IsFineEnv Fine begun.env)
-  pub bound : (s : State) → Fit s → (callee : Callee) → IsFineEnv Fine (bound_at (sight_in behaving (root_of s)) callee.node)
+  pub binds : (s : State) → Fit s → (callee : Callee) → AreFine Fine callee.given → (action : ShownAction)
+      → IfOk (arguments_bound behaving callee (root_of s) action) (IsFineEnv Fine)
+  pub bound : (s : State) → Fit s → (n : NodeNo) → IsFineEnv Fine (bound_at (sight_in behaving (root_of s)) n)
   -- each change of a state is kept
   pub meets : (A : Type 0) (run : Run A) (s : State) → Fit s → Fit (with_met run s) × Rel s (with_met run s)
   pub counting : (s : State) → Fit s → Fit (record s { counted = suc s.counted }) × Rel s (record s { counted = suc s.counted })
@@ -104,3 +100,7 @@ pub record Keeping : Type 1 where
       → given behaving.types target giving (tree_in s.tree) ≡ Ok c → Fit (with_change c s) × Rel s (with_change c s)
   pub backing : (earlier now : State) → Fit earlier → Fit now → Rel earlier now
       → Fit (taken_back earlier.tree now) × Rel earlier (taken_back earlier.tree now)
+
+-- a run keeps the relation, from each state of which the fact holds
+abbrev pub Keeps : (k : Keeping) → {A : Type 0} → (A → Type 0) → Act A → Type 0
+Keeps k P act = (s : State) → k.Fit s → IsKept k.Rel k.Fit P s (act s)
