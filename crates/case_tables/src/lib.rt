@@ -2,11 +2,8 @@
 //! written in short.
 //!
 //! ```
-//! for (at, line) in text.lines().enumerate() {
-//!     if !is_comment(line) {
-//!         tally.compare(rt, &Place { table, line: at + 1 }, (given, wants), found)?;
-//!     }
-//! }
+//! let mut tally = Tally::new();
+//! judge_table(rt, &mut tally, "pointers.txt", &Texts::Pointer)?;
 //! println!(rt; "{tally}")
 //! ```
 //!
@@ -15,8 +12,10 @@
 
 mod line;
 mod long;
+mod table;
 mod tally;
 
 pub use line::{given_table, is_comment};
 pub use long::written_out;
+pub use table::{Judge, judge_table};
 pub use tally::{Place, Tally};

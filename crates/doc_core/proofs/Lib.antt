@@ -2,3 +2,4 @@ pub mod Trying
 pub mod Stages
 pub mod Typed
 pub mod Leading
+pub mod Viewed

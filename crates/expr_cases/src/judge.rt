@@ -3,6 +3,7 @@ ghost use Rattle.std.specs.Prelude.{◌≡◌, length};
 ghost use Rattle.snap_core.specs.Value.{IsOrdered, AreOrderedMembers};
 ghost use Rattle.snap_core.specs.View.{view, fields_view};
 
+use case_tables::Judge;
 use expr_form::{Scope, Target, Trouble, read_body, read_expression};
 use pointer_core::Pointer;
 use snap_core::{Field, ModelNo, Snap};
@@ -11,7 +12,7 @@ use std::alloc::{AllocError, Global};
 
 /// What the texts of a table are.
 #[derive(Clone, Copy)]
-pub enum Judge {
+pub enum Texts {
     Expression,
     Body,
 }
@@ -25,36 +26,38 @@ const TARGETS: [Target; 3] = [
 ];
 
 /// What a text comes to.
-pub fn outcome(alloc: Global, judge: Judge, text: &str) -> Result<String, AllocError> {
-    let Some(types) = read_loosely(alloc, TYPES.as_bytes())? else {
-        return String::from_str(alloc, "no types");
-    };
-    let Some(value) = read_loosely(alloc, text.as_bytes())? else {
-        return String::from_str(alloc, "syntax");
-    };
-    judged(alloc, judge, &value, &types)
+impl Judge for Texts {
+    fn outcome(&self, alloc: Global, text: &str) -> Result<String, AllocError> {
+        let Some(types) = read_loosely(alloc, TYPES.as_bytes())? else {
+            return String::from_str(alloc, "no types");
+        };
+        let Some(value) = read_loosely(alloc, text.as_bytes())? else {
+            return String::from_str(alloc, "syntax");
+        };
+        judged(alloc, *self, &value, &types)
+    }
 }
 
 /// What a value comes to, by types that are a record.
-fn judged(alloc: Global, judge: Judge, value: &Snap, types: &Snap) -> Result<String, AllocError>
+fn judged(alloc: Global, texts: Texts, value: &Snap, types: &Snap) -> Result<String, AllocError>
     requires { IsOrdered (view types.now) }
 {
     match types {
-        Snap::Dict(types) => judged_among(alloc, judge, value, types.as_slice()),
+        Snap::Dict(types) => judged_among(alloc, texts, value, types.as_slice()),
         _ => String::from_str(alloc, "other types"),
     }
 }
 
 fn judged_among(
     alloc: Global,
-    judge: Judge,
+    texts: Texts,
     value: &Snap,
     types: &[Field],
 ) -> Result<String, AllocError>
     requires { AreOrderedMembers (fields_view types.now) }
 {
     if types.len() == TARGETS.len() {
-        judged_by(alloc, judge, value, types, &TARGETS)
+        judged_by(alloc, texts, value, types, &TARGETS)
     } else {
         String::from_str(alloc, "other types")
     }
@@ -63,7 +66,7 @@ fn judged_among(
 #[tactic(auto, using(crate::proofs::Orders::keyed_by_order))]
 fn judged_by(
     alloc: Global,
-    judge: Judge,
+    texts: Texts,
     value: &Snap,
     types: &[Field],
     targets: &[Target],
@@ -73,9 +76,9 @@ fn judged_by(
 {
     let mut scope = Scope::new(alloc)?;
     scope.bind("p")?;
-    match judge {
-        Judge::Expression => told(alloc, read_expression(value, types, targets, &mut scope)),
-        Judge::Body => told(alloc, read_body(value, types, targets, &mut scope)),
+    match texts {
+        Texts::Expression => told(alloc, read_expression(value, types, targets, &mut scope)),
+        Texts::Body => told(alloc, read_body(value, types, targets, &mut scope)),
     }
 }
 

@@ -7,15 +7,14 @@
 #![tactic(auto)]
 
 mod judge;
-mod table;
 
-use crate::judge::Judge;
-use case_tables::Tally;
+use crate::judge::Texts;
+use case_tables::{Tally, judge_table};
 use std::io;
 
 fn main(rt: HostRuntime) -> io::Result<()> {
     let mut tally = Tally::new();
-    table::run(&rt, &mut tally, "expressions.txt", Judge::Expression)?;
-    table::run(&rt, &mut tally, "bodies.txt", Judge::Body)?;
+    judge_table(&rt, &mut tally, "expressions.txt", &Texts::Expression)?;
+    judge_table(&rt, &mut tally, "bodies.txt", &Texts::Body)?;
     println!(rt; "{tally}")
 }

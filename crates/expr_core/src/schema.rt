@@ -103,8 +103,9 @@ impl Schema {
         ensures named { IfSome result (λ v. option_map (λ w. w.name) (view_at self.now v) ≡ Some name.now) }
         ensures plain { HavePlainConstants (views_of self.now) }
     {
+        let views = &self.views;
         let at = position(self.own_views(m), name)?;
-        Some(ViewNo(self.views.number(Place { model: m.0, at })))
+        Some(ViewNo(views.number(Place { model: m.0, at })))
     }
 
     /// The expression that a view answers.

@@ -1,18 +1,13 @@
-//! Tests of the crates below the types, by their public calls: `list_core`, `snap_core`,
-//! `pointer_core`, `edge_core`, `http_front` and `link_core`. They stand apart, since a crate that has
-//! tests is proved twice.
+//! Tests of what no case reaches: the real world and the real door, doors in memory whose calls fail in turn, lists as they
+//! are edited, copies, and the texts of refusals. They stand apart, since a crate that has tests is proved twice.
 #![tactic(auto)]
 
 #[cfg(test)]
 mod door;
 #[cfg(test)]
-mod links;
-#[cfg(test)]
 mod parts;
 #[cfg(test)]
 mod pointers;
-#[cfg(test)]
-mod requests;
 #[cfg(test)]
 mod streams;
 #[cfg(test)]

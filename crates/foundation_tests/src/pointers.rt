@@ -3,25 +3,6 @@ use snap_core::Txt;
 use std::test::Fail;
 
 #[test]
-fn pointers_are_spelled(rt: HostRuntime) -> Result<(), Fail> {
-    let alloc = rt.alloc();
-    let mut pointer = Pointer::new(alloc);
-    assert_eq!(rt; pointer.print()?.text(), "");
-    for token in ["m~n", "", "é"] {
-        pointer.push(Txt::copy(alloc, token)?)?;
-    }
-    let pointer = pointer.under("a/b")?.under_index(10)?;
-    assert_eq!(rt; pointer.print()?.text(), "/10/a~1b/m~0n//é");
-    assert_eq!(rt; pointer.len(), 5);
-    match pointer.get(2) {
-        Some(token) => assert_eq!(rt; token.text(), "m~n"),
-        None => assert!(rt; false),
-    }
-    assert!(rt; pointer.get(5).is_none());
-    Ok(())
-}
-
-#[test]
 fn refusals_have_texts(rt: HostRuntime) -> Result<(), Fail> {
     let alloc = rt.alloc();
     let path = Pointer::parse(alloc, "/a~1b/0")?;

@@ -6,6 +6,7 @@ pub mod Telling
 pub mod Kept
 pub mod Pointing
 pub mod Replying
+pub mod Viewing
 pub mod Hosting
 pub mod OneDocument
 pub mod SoundChanges

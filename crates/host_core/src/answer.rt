@@ -110,12 +110,7 @@ fn resolve_named(visit: &Visit<'_>, docs: &[Held], name: &str) -> Result<Bytes, 
     }
 }
 
-fn view_named(
-    visit: &Visit<'_>,
-    docs: &[Held],
-    name: &str,
-    one: &str,
-) -> Result<Bytes, AllocError>
+fn view_named(visit: &Visit<'_>, docs: &[Held], name: &str, one: &str) -> Result<Bytes, AllocError>
     requires { AreHeld visit.now.schema.now.types docs.now }
     ensures { IfOk result (λ bytes. IsAnswered (closes visit.now)
         (On name.now (held_docs docs.now) (Views (visit_of visit.now) one.now)) bytes (held_docs docs.now)) }

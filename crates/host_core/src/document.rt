@@ -100,7 +100,8 @@ fn ask_view_at(
 ) -> Result<Bytes, AllocError>
     ensures { IfOk result (λ bytes. bytes ≡ printed (closes visit.now) (answer_of (viewed visit.now.schema.now.types (views_of visit.now.schema.now) path.now name.now (state document.now).tree))) }
 {
-    match view_answer::<Brand>(visit, document, path, name, Blank::new(1)) {
+    let wanted = Wanted { path, name };
+    match view_answer::<Brand>(visit, document, &wanted, Blank::new(1)) {
         Ok(answer) => answer_reply(visit.alloc, visit.request.close, answer),
         Err(DocError::Memory) => Err(AllocError),
         Err(DocError::Refused(refusal)) => {
@@ -109,22 +110,34 @@ fn ask_view_at(
     }
 }
 
+// A view that is asked: its name, and where its node stands.
+#[derive(Clone, Copy, Debug)]
+struct Wanted<'a> {
+    path: &'a Pointer,
+    name: &'a str,
+}
+
 // What the view answers, its steps counted on a new ledger.
 fn view_answer<L: Ledger>(
     visit: &Visit<'_>,
     document: &Document,
-    path: &Pointer,
-    name: &str,
+    wanted: &Wanted<'_>,
     blank: Blank,
 ) -> Result<Snap, DocError>
     requires name { blank.name ≡ L.name }
     requires parts { blank.parts ≡ L.parts }
     requires some { 0 < blank.parts }
-    ensures outcome { Answers view result (viewed visit.now.schema.now.types (views_of visit.now.schema.now) path.now name.now (state document.now).tree) }
+    ensures outcome { Answers view result (viewed visit.now.schema.now.types (views_of visit.now.schema.now) wanted.now.path.now wanted.now.name.now (state document.now).tree) }
     ensures plain { IfOk result (λ answer. IsPlain (view answer)) }
 {
     let mut steps = Steps::<L>::new(blank);
-    document.view(visit.alloc, visit.schema, path, name, &mut steps)
+    document.view(
+        visit.alloc,
+        visit.schema,
+        wanted.path,
+        wanted.name,
+        &mut steps,
+    )
 }
 
 /// Changes a document by the patches of the body.

@@ -14,6 +14,6 @@ mod bodies;
 mod replies;
 
 pub use replies::{
-    answer_reply, change_reply, method_reply, names_reply, node_reply, refusal_reply, removed_reply, rule_reply,
-    snapshot_reply,
+    answer_reply, change_reply, method_reply, names_reply, node_reply, refusal_reply,
+    removed_reply, rule_reply, snapshot_reply,
 };

@@ -5,6 +5,7 @@ ghost use Rattle.snap_core.specs.View.{view};
 ghost use Rattle.patch_core.specs.Application.{HasValue};
 ghost use Rattle.patch_core.specs.Printing.{HasPlainValues};
 
+use case_tables::Judge;
 use patch_core::{PatchError, Patches, apply, print_patches, read_patches};
 use snap_core::Snap;
 use snap_json::{ReadError, print_snap, read_snap};
@@ -12,7 +13,7 @@ use std::alloc::{AllocError, Global};
 
 /// What the lines of a table are.
 #[derive(Clone, Copy)]
-pub enum Judge {
+pub enum Texts {
     /// A value and patches, which come to the value after them.
     Applied,
     /// Patches, which come to how they are printed.
@@ -20,15 +21,17 @@ pub enum Judge {
 }
 
 /// What a line comes to: JSON, or why it comes to none.
-pub fn outcome(alloc: Global, judge: Judge, given: &str) -> Result<String, AllocError> {
-    let found = match judge {
-        Judge::Applied => applied(alloc, given),
-        Judge::Read => read(alloc, given),
-    };
-    match found {
-        Ok(text) => Ok(text),
-        Err(Refusal::Memory) => Err(AllocError),
-        Err(refusal) => String::from_str(alloc, refusal.name()),
+impl Judge for Texts {
+    fn outcome(&self, alloc: Global, given: &str) -> Result<String, AllocError> {
+        let found = match self {
+            Texts::Applied => applied(alloc, given),
+            Texts::Read => read(alloc, given),
+        };
+        match found {
+            Ok(text) => Ok(text),
+            Err(Refusal::Memory) => Err(AllocError),
+            Err(refusal) => String::from_str(alloc, refusal.name()),
+        }
     }
 }
 

@@ -6,19 +6,18 @@
 #![tactic(auto)]
 
 mod judge;
-mod table;
 
-use crate::judge::Judge;
-use case_tables::{Tally, given_table};
+use crate::judge::Texts;
+use case_tables::{Tally, given_table, judge_table};
 use std::io;
 
 fn main(rt: HostRuntime) -> io::Result<()> {
     let mut tally = Tally::new();
     match given_table(&rt)? {
-        Some(name) => table::run(&rt, &mut tally, name.as_str(), Judge::Applied)?,
+        Some(name) => judge_table(&rt, &mut tally, name.as_str(), &Texts::Applied)?,
         None => {
-            table::run(&rt, &mut tally, "applying.txt", Judge::Applied)?;
-            table::run(&rt, &mut tally, "reading.txt", Judge::Read)?;
+            judge_table(&rt, &mut tally, "applying.txt", &Texts::Applied)?;
+            judge_table(&rt, &mut tally, "reading.txt", &Texts::Read)?;
         }
     }
     println!(rt; "{tally}")

@@ -26,7 +26,7 @@ use Rattle.eval_core.specs.Scope.{Viewing}
 use Rattle.plain_answers.specs.Plainness.{IsPlainHeld, IsPlainLevel, HasPlainIdentifier, IsPlainSight, HasPlainBodies}
 use Rattle.plain_answers.specs.Laws.{GivePlainAnswers}
 use Rattle.plain_answers.proofs.Evaluations.{answers-plain}
-use Rattle.view_engine.specs.TreeSight.{Whole, value_at_place, held_as, held_there, identifier_under, being_by, item_entry, key_entry, level_by, sight_of}
+use Rattle.view_engine.specs.TreeSight.{Whole, value_at_place, held_as, held_there, identifier_under, being_by, item_entry, key_entry, map_size, level_by, sight_of}
 
 abbrev IsPlainPart : Labelled → Type 0
 IsPlainPart x = IsPlain (bare x)
@@ -128,7 +128,7 @@ level-plain : (whole : Whole) (n : NodeNo) (o : Option Kind) → IsPlain (bare w
 level-plain whole n (Some (kind.Array t)) h =
     entries-plain (item_entry whole n) (range_with_len 0 (unwrap_or (size_at n.0 whole.tree) 0)) (λ i. entry_of-plain whole (place.Item n i) h)
 level-plain whole n (Some (kind.Map t)) h =
-    entries-plain (key_entry whole n) (range_with_len 0 (unwrap_or (size_at n.0 whole.tree) 0)) (λ i. entry_of-plain whole (place.Key n (unwrap_or (key_at n.0 i whole.tree) [])) h)
+    entries-plain (key_entry whole n) (range_with_len 0 (map_size whole n)) (λ i. entry_of-plain whole (place.Key n (unwrap_or (key_at n.0 i whole.tree) [])) h)
 level-plain whole n (Some (kind.Model m)) h = tt
 level-plain whole n None h = tt
 

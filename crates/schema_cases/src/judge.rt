@@ -2,6 +2,7 @@
 ghost use Rattle.snap_core.specs.Value.{IsPlain};
 ghost use Rattle.snap_core.specs.View.{view};
 
+use case_tables::Judge;
 use pointer_core::{Pointer, PointerError};
 use schema_read::{SchemaError, read_schema};
 use snap_core::{Name, NameError, Snap};
@@ -10,7 +11,7 @@ use std::alloc::{AllocError, Global};
 
 /// What the texts of a table are.
 #[derive(Clone, Copy)]
-pub enum Judge {
+pub enum Texts {
     /// JSON, which comes to its compact form.
     Value,
     /// Pointers, which come to their tokens in brackets.
@@ -28,15 +29,17 @@ pub enum Judge {
 }
 
 /// What a text comes to: `ok` or what it is read as, or why it isn't read.
-pub fn outcome(alloc: Global, judge: Judge, text: &str) -> Result<String, AllocError> {
-    match judge {
-        Judge::Value => value(alloc, text),
-        Judge::Pointer => tokens(alloc, text),
-        Judge::Index => index(alloc, text),
-        Judge::Measure => measure(alloc, text),
-        Judge::Name => name(alloc, text),
-        Judge::Schema => schema(alloc, text),
-        Judge::Held => held(alloc, text),
+impl Judge for Texts {
+    fn outcome(&self, alloc: Global, text: &str) -> Result<String, AllocError> {
+        match self {
+            Texts::Value => value(alloc, text),
+            Texts::Pointer => tokens(alloc, text),
+            Texts::Index => index(alloc, text),
+            Texts::Measure => measure(alloc, text),
+            Texts::Name => name(alloc, text),
+            Texts::Schema => schema(alloc, text),
+            Texts::Held => held(alloc, text),
+        }
     }
 }
 

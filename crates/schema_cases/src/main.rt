@@ -7,23 +7,22 @@
 
 mod judge;
 mod making;
-mod table;
 
-use crate::judge::Judge;
-use case_tables::Tally;
+use crate::judge::Texts;
+use case_tables::{Tally, judge_table};
 use std::io;
 
 fn main(rt: HostRuntime) -> io::Result<()> {
     let mut tally = Tally::new();
-    table::run(&rt, &mut tally, "values.txt", Judge::Value)?;
-    table::run(&rt, &mut tally, "measures.txt", Judge::Measure)?;
-    table::run(&rt, &mut tally, "names.txt", Judge::Name)?;
-    table::run(&rt, &mut tally, "pointers.txt", Judge::Pointer)?;
-    table::run(&rt, &mut tally, "indices.txt", Judge::Index)?;
-    table::run(&rt, &mut tally, "schemas.txt", Judge::Schema)?;
-    table::run(&rt, &mut tally, "links.txt", Judge::Schema)?;
-    table::run(&rt, &mut tally, "behaviours.txt", Judge::Schema)?;
-    table::run(&rt, &mut tally, "held.txt", Judge::Held)?;
+    judge_table(&rt, &mut tally, "values.txt", &Texts::Value)?;
+    judge_table(&rt, &mut tally, "measures.txt", &Texts::Measure)?;
+    judge_table(&rt, &mut tally, "names.txt", &Texts::Name)?;
+    judge_table(&rt, &mut tally, "pointers.txt", &Texts::Pointer)?;
+    judge_table(&rt, &mut tally, "indices.txt", &Texts::Index)?;
+    judge_table(&rt, &mut tally, "schemas.txt", &Texts::Schema)?;
+    judge_table(&rt, &mut tally, "links.txt", &Texts::Schema)?;
+    judge_table(&rt, &mut tally, "behaviours.txt", &Texts::Schema)?;
+    judge_table(&rt, &mut tally, "held.txt", &Texts::Held)?;
     making::run(&rt, &mut tally, "making.txt")?;
     making::run(&rt, &mut tally, "examples.txt")?;
     making::run(&rt, &mut tally, "limits.txt")?;

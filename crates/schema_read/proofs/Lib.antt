@@ -2,6 +2,7 @@ pub mod Faulty
 pub mod Filling
 pub mod Growing
 pub mod LawLemmas
+pub mod PlainViews
 pub mod Refusals
 pub mod Single
 pub mod Straying

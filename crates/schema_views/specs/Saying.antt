@@ -7,7 +7,7 @@ use Rattle.expr_syntax.specs.Syntax.{Expression, constant}
 use Rattle.model_syntax.specs.Shown.{ShownView}
 use Rattle.type_table.specs.Table.{Table, Catalog, properties_of}
 use Rattle.type_table.specs.Unions.{property_at}
-use Rattle.eval_core.specs.Scope.{Member, property, view, Viewing}
+use Rattle.eval_core.specs.Scope.{Member, property, view}
 use Rattle.expr_core.specs.Numbers.{joined}
 use Rattle.expr_core.specs.Schema.{Schema, views_of, numbered_view}
 use Rattle.view_engine.specs.Saying.{Saying}

@@ -1,11 +1,12 @@
 //! What views answer, as values.
-ghost use Rattle.std.specs.Prelude.{◌≡◌, ◌+◌, ◌≤◌, ◌<◌, [], map, IfOk};
-ghost use Rattle.snap_core.specs.Value.{IsPlain, ArePlain};
+ghost use Rattle.std.specs.Prelude.{◌≡◌, ◌+◌, ◌≤◌, ◌<◌, IfOk};
+ghost use Rattle.snap_core.specs.Value.{IsPlain};
 ghost use Rattle.snap_core.specs.View.{view, items_view};
 ghost use Rattle.pointer_core.specs.Path.{printed};
-ghost use Rattle.plain_answers.specs.Plainness.{IsPlainAnswer, ArePlainAnswers};
+ghost use Rattle.edit_core.specs.Labelled.{bare};
 ghost use Rattle.answer_ops.specs.View.{answer_of, answers_of};
 ghost use Rattle.view_engine.specs.Did.{cost_of};
+ghost use Rattle.expr_core.specs.Plain.{HavePlainConstants};
 ghost use Rattle.expr_core.specs.Schema.{view_count, views_of};
 ghost use Rattle.live_tree.specs.Contents.{state};
 ghost use Rattle.schema_views.specs.Answering.{Shows, answered, answer_value, answer_values, only, path_in, run_of};
@@ -38,29 +39,41 @@ pub fn answer_view<L: Ledger>(
     ensures plain { IfOk result (λ answer. IsPlain (view answer)) }
     ensures ticks { steps.new ≤ steps.old + cost_of (run_of schema.now.types (views_of schema.now) (asked_of of) (state tree.now).tree) }
 {
+    values_are_plain(tree, schema);
     let viewed = Viewed { schema };
     let answer = Views::new().ask(alloc, tree, &viewed, of.node, of.view, steps)?;
     Ok(show_answer(alloc, tree, answer)?)
 }
 
+// The value of a tree is plain, and so are the constants in the views of a schema. It does nothing.
+fn values_are_plain(tree: &Tree, schema: &Schema)
+    ensures value { IsPlain (bare (state tree.now).tree) }
+    ensures constants { HavePlainConstants (views_of schema.now) }
+{
+    let _ = tree.mark();
+    let _ = schema.view(schema.root(), "");
+}
+
 #[cycle(show)]
 fn show_answer(alloc: Global, tree: &Tree, answer: Value) -> Result<Snap, AllocError>
-    ensures shown { IfOk result (λ shown. view shown ≡ answer_value (path_in (state tree.now).tree) (answer_of answer)) }
-    ensures plain { IsPlainAnswer (answer_of answer) → IfOk result (λ shown. IsPlain (view shown)) }
+    ensures { IfOk result (λ shown. view shown ≡ answer_value (path_in (state tree.now).tree) (answer_of answer)) }
 {
     match answer {
         Value::Plain(value) => only(alloc, "plain", value),
         Value::Node(n) => only(alloc, "node", Snap::Text(path_of(alloc, tree, n)?)),
         Value::Several(answers) => {
-            only(alloc, "several", Snap::List(show_answers(alloc, tree, answers)?))
+            only(
+                alloc,
+                "several",
+                Snap::List(show_answers(alloc, tree, answers)?),
+            )
         }
     }
 }
 
 #[cycle(show)]
 fn show_answers(alloc: Global, tree: &Tree, answers: Values) -> Result<Parts<Snap>, AllocError>
-    ensures shown { IfOk result (λ shown. items_view shown ≡ answer_values (path_in (state tree.now).tree) (answers_of answers)) }
-    ensures plain { ArePlainAnswers (answers_of answers) → IfOk result (λ shown. ArePlain (items_view shown)) }
+    ensures { IfOk result (λ shown. items_view shown ≡ answer_values (path_in (state tree.now).tree) (answers_of answers)) }
 {
     let mut shown = Parts::new(alloc);
     for answer in answers.into_vec() {
@@ -71,8 +84,7 @@ fn show_answers(alloc: Global, tree: &Tree, answers: Values) -> Result<Parts<Sna
 
 // A record of one entry.
 fn only(alloc: Global, key: &str, value: Snap) -> Result<Snap, AllocError>
-    ensures shown { IfOk result (λ made. view made ≡ only key.now (view value)) }
-    ensures plain { IsPlain (view value) → IfOk result (λ made. IsPlain (view made)) }
+    ensures { IfOk result (λ made. view made ≡ only key.now (view value)) }
 {
     let mut fields = Parts::new(alloc);
     fields.push(Field {

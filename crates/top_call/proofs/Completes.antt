@@ -1,5 +1,5 @@
 -- A check of a schema, and whole requests on links, come to what they ask for.
-use Rattle.std.proofs.Common.{◌≡◌, ℕ, ◌<◌, ◌⊎◌, inl, inr, List, [], length, Option, Some, None, refl, sym, ◌∙◌, ap, subst, arith}
+use Rattle.std.proofs.Common.{◌≡◌, ℕ, ◌<◌, ◌⊎◌, inl, inr, List, length, Option, Some, None, refl, sym, ◌∙◌, ap, subst, arith}
 use Rattle.std.specs.Prelude.{IsSomeAnd}
 use Rattle.http_front.specs.Request.{Request}
 use Rattle.edge_core.specs.World.{WorldState, WorldHasFailed}
@@ -8,19 +8,19 @@ use Rattle.pointer_core.specs.declared.schema_rule.SchemaRule.{SchemaRule}
 use Rattle.snap_json.specs.Loose.{loosely}
 use Rattle.expr_core.specs.Schema.{Schema}
 use Rattle.schema_read.specs.Schema.{IsSchema, Spells}
-use Rattle.schema_read.specs.Laws.{SchemaHasNoFault, FileIsOneSchema}
-use Rattle.serve_core.specs.Laws.{DoorCompletes, FaultsAreCounted}
+use Rattle.schema_read.specs.Laws.{SchemaHasNoFault, AreOne, FileIsOneSchema}
+use Rattle.serve_core.specs.Laws.{DoorCompletes, AreAnswered, FaultsAreCounted}
 use Rattle.serve_core.specs.Serving.{Serving, ServesDoor}
 use Rattle.serve_core.specs.declared.plan.Plan.{Plan}
 use Rattle.serve_core.specs.declared.plan.ServeEnd.{ServeEnd}
 use Rattle.serve_core.specs.declared.plan.ServeEnd.TheVariants as end
-use Rattle.type_table.specs.Table.{Catalog}
-use Rattle.top_call.specs.Answering.{State, replies}
+use Rattle.top_call.specs.Answering.{State, start, replies}
 use Rattle.top_call.specs.declared.exit.Exit.{Exit}
 use Rattle.top_call.specs.declared.exit.Exit.TheVariants.{Done, Checked, Usage, Unread, Syntax, Refused, DoorFailed, Memory, Inside}
 use Rattle.top_call.specs.Exit.{exit_code}
 use Rattle.top_call.specs.Words.{Command, check, run, serve, name_in, plan_of}
 use Rattle.top_call.specs.Run.{Run, Files, IfFile, IfSchemaFile, IsTooLong, IsFileOf, IsNoJson, IsFaulty, Causes, FileIsGiven, SchemaIsGiven, RequestsAreGiven, AreReplied, Served, serving_of, IsServed, ServesBy, IsCheck}
+use Rattle.top_call.proofs.Alike.{AreAlike, starts_alike, replies_alike, answered_alike}
 
 -- the laws of the crates below: whole requests are answered, faults are counted; a schema has no fault, and a file is one schema
 pub record Laws : Type 0 where
@@ -103,7 +103,7 @@ check_completes laws r Done cause given world = absurd (serves_not given.name ca
 check_completes laws r Inside cause given world = absurd (serves_not given.name cause.served.plan (subst (λ c. ServesBy c cause.served.plan) given.named cause.serves_by))
 check_completes laws r DoorFailed cause given world = absurd (serves_not given.name cause.served.plan (subst (λ c. ServesBy c cause.served.plan) given.named cause.serves_by))
 
--- what was served is what is given
+-- what was served is what is given, as far as it is shown
 module _ (laws : Laws) (r : Run) (schema : Schema) (requests : List (List Request)) (given : RequestsAreGiven r schema requests) (outcome : ServeEnd) (x : IsServed r outcome) where
   same_plan : x.served.plan ≡ given.plan
   same_plan =
@@ -111,32 +111,33 @@ module _ (laws : Laws) (r : Run) (schema : Schema) (requests : List (List Reques
       let e : Some x.served.plan ≡ Some given.plan = sym by ∙ given.serves_by in
       cc
 
-  same_types : x.served.schema.types ≡ schema.types
-  same_types =
+  same_schema : AreOne x.served.schema schema
+  same_schema =
       let ours : IsFileOf x.served.schema given.file =
       of_file r.world_before.files (name_in given.command) given.file (IsFileOf x.served.schema) given.given
       (of_named r given.command (IsFileOf x.served.schema) given.named x.file) in
-      (laws.file_is_one_schema given.file x.served.schema schema ours.spells given.is_schema.spells).types
+      laws.file_is_one_schema given.file x.served.schema schema ours.spells given.is_schema.spells
 
-  -- a state before the first request has a schema's types, and no more of it
-  abbrev serving_with : Plan → Catalog → Serving State
-  serving_with plan types = record {
-    plan = plan;
-    before = record { state = record { types = types; shown = [] }; door = r.door_before };
-    after = record { state = x.served.last; door = r.door_after };
-  }
+  -- by the plan that is given, for a schema, to a last state
+  abbrev served_as : Schema → State → Served
+  served_as served last = record { plan = given.plan; schema = served; last = last }
 
-  same_serving : serving_of r x.served ≡ serving_of r (record { plan = given.plan; schema = schema; last = x.served.last })
-  same_serving = ap (λ plan. serving_with plan x.served.schema.types) same_plan ∙ ap (serving_with given.plan) same_types
+  same_serving : serving_of r x.served ≡ serving_of r (served_as x.served.schema x.served.last)
+  same_serving = ap (λ (plan : Plan). serving_of r (record x.served { plan = plan })) same_plan
+
+  -- what answers for the schema that was served answers like what answers for the one that is given
+  same_replies : AreAnswered replies (serving_of r (served_as x.served.schema x.served.last)) given.links requests → AreReplied r schema requests given
+  same_replies answered =
+      answered_alike replies AreAlike replies_alike (serving_of r (served_as x.served.schema x.served.last)) given.links requests (start schema)
+      (starts_alike x.served.schema schema same_schema) answered
 
   pub served_completes : ¬ (DoorHasFailed r.door_before r.door_after) → (outcome ≡ end.Memory) ⊎ ((outcome ≡ end.Done) × AreReplied r schema requests given)
   served_completes door =
-      let ours : Served = record { plan = given.plan; schema = schema; last = x.served.last } in
-      elim (laws.door_completes (serving_of r ours) outcome given.links requests
+      elim (laws.door_completes (serving_of r (served_as x.served.schema x.served.last)) outcome given.links requests
       (subst (λ (serving : Serving State). ServesDoor replies serving outcome) same_serving x.door)
       (record { told = given.told; inputs = given.inputs }) door) [
         | inl memory ↦ inl memory
-        | inr done ↦ inr (done.0, (x.served.last, done.1))
+        | inr done ↦ inr (done.0, same_replies done.1)
       ]
 
 -- the exits of a command that serves, by a schema file that is given, with no fault of the world's

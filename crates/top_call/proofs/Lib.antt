@@ -1,3 +1,4 @@
+pub mod Alike
 pub mod Completes
 pub mod Ends
 pub mod Grammar

@@ -19,14 +19,14 @@ returns-in_default-clause-refused c =
     rw (c.in_ok-under.ensures, c.new.ensures) (at_root none)
 
 pub draft_of-requires : goal.draft_of-requires
-draft_of-requires c = rw (c.as_slice-3.ensures, c.as_slice-4.ensures, c.in_ok-places.ensures.kinds) (AreWhole-form c.args.form c.requires)
+draft_of-requires c = rw (c.as_slice-3.ensures, c.as_slice-4.ensures, c.in_ok-places.ensures.kinds) (AreWhole-form c.args.form c.requires.whole)
 
 pub finish-requires-clause-root : goal.finish-requires-clause-root
 finish-requires-clause-root c =
     let form = c.args.form in
     let is : root_of form ≡ Some c.in-Some.root = sym (rw (c.as_slice.ensures, c.as_slice-2.ensures, c.in_ok-places.ensures.kinds) at c.model_of.ensures) ∙ c.in-Some.is in
     let plan : c.in_ok-draft.draft ≡ plan_of (table_of form) = rw (c.as_slice-3.ensures, c.as_slice-4.ensures, c.in_ok-places.ensures.kinds) at c.in_ok-draft.ensures in
-    subst (λ (p : Plan). c.in-Some.root.0 < length p.models) (sym plan) (root-below form c.requires c.in-Some.root is)
+    subst (λ (p : Plan). c.in-Some.root.0 < length p.models) (sym plan) (root-below form c.requires.whole c.in-Some.root is)
 
 pub finish-requires-clause-defined : goal.finish-requires-clause-defined
 finish-requires-clause-defined c =
@@ -61,14 +61,14 @@ returns-in-Ok-clause-refused c =
     let fault = c.in_ok-led_astray-in-Some-astray.field-0 in
     let tables : c.in-Ok.types.table ≡ table_of form = same_table c.in-Ok.types.table (table_of form) (known.plan ∙ plan) in
     rw c.refused.ensures
-    (strays form c.in-Some.root a fault is c.in-Some-astray.is (c.requires.astray a c.in-Some-astray.is)
+    (strays form c.in-Some.root a fault is c.in-Some-astray.is (c.requires.whole.astray a c.in-Some-astray.is)
     (none-at-all (table_of form) a (λ u other wrong. known.faultless u other (subst (λ (table : Table). HasFault table u other) (sym tables) wrong)))
     (λ model there. c.in_ok-led_astray-in-Some-astray.ensures model (ap (λ ms. slice_get ms a.model.0) c.as_slice-in-Some-astray.ensures ∙ there)))
 
 pub first_of-requires-clause-places : goal.first_of-requires-clause-places
 first_of-requires-clause-places c =
     let form = c.args.form in
-    rw (c.as_slice-entries.ensures, c.as_slice-models.ensures, c.as_slice-places.ensures, c.in_ok-places.ensures.places) c.requires.places
+    rw (c.as_slice-entries.ensures, c.as_slice-models.ensures, c.as_slice-places.ensures, c.in_ok-places.ensures.places) c.requires.whole.places
 
 pub first_of-requires-clause-within : goal.first_of-requires-clause-within
 first_of-requires-clause-within c =
@@ -89,5 +89,5 @@ returns-clause-refused c =
     let fault = c.in_ok-fault-in-Err-Wrong.fault in
     let at = rw (c.as_slice-entries.ensures, c.as_slice-models.ensures, c.as_slice-places.ensures, c.in_ok-places.ensures.places) at c.in_ok-fault-in-Err-Wrong.ensures.fault in
     rw c.refused-in-Err-Wrong.ensures
-    (judged form c.in-Some.root c.in-Err-Wrong.t.0 c.in-Err-Wrong.rule fault c.requires.astray is first at
+    (judged form c.in-Some.root c.in-Err-Wrong.t.0 c.in-Err-Wrong.rule fault c.requires.whole.astray is first at
     (λ a model is_astray late there. c.in_ok-fault-in-Err-Wrong.ensures.astray a model is_astray late (ap (λ ms. slice_get ms a.model.0) c.as_slice-models.ensures ∙ there)))

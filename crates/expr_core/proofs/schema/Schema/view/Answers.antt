@@ -59,3 +59,9 @@ returns-clause-named c =
     let own : map view_shown c.own_views.result.now ≡ parts_of lists c.args.m.0 = rw (← c.self.view_is) at c.own_views.ensures.views in
     rw (← c.self.view_is, c.number.ensures) (found_named name_of view_shown lists c.own_views.result.now c.args.m.0 c.args.name.now own c.self.inside.views
     (IsNumbered-of lists c.self.inside.views c.self.invariant.views) c.in_ok-at.at (sym c.position.ensures ∙ c.in_ok-at.was))
+
+pub returns-in_err-at-clause-plain : goal.returns-in_err-at-clause-plain
+returns-in_err-at-clause-plain c = rw (← c.self.view_is) c.self.invariant.plain
+
+pub returns-clause-plain : goal.returns-clause-plain
+returns-clause-plain c = rw (← c.self.view_is) c.self.invariant.plain

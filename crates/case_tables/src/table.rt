@@ -1,15 +1,23 @@
-//! Tables of texts.
-use crate::judge::{Judge, outcome};
-use case_tables::{Place, Tally, is_comment, written_out};
+//! Tables of texts: each line has a text, ` => `, and what it comes to.
+use crate::line::is_comment;
+use crate::long::written_out;
+use crate::tally::{Place, Tally};
+use std::alloc::{AllocError, Global};
 use std::rt::Files;
 use std::{fs, io};
 
+/// What says what the texts of a table come to.
+pub trait Judge {
+    /// What a text comes to, or why it comes to nothing.
+    fn outcome(&self, alloc: Global, text: &str) -> Result<String, AllocError>;
+}
+
 /// Judges each line of a table.
-pub fn run<R: Files + Print + AllocGlobal>(
+pub fn judge_table<R: Files + Print + AllocGlobal, J: Judge>(
     rt: &R,
     tally: &mut Tally,
     table: &str,
-    judge: Judge,
+    judge: &J,
 ) -> io::Result<()> {
     let text = fs::read_to_string(rt, table)?;
     for (at, line) in text.lines().enumerate() {
@@ -24,18 +32,18 @@ pub fn run<R: Files + Print + AllocGlobal>(
     Ok(())
 }
 
-fn judge_line<R: Print + AllocGlobal>(
+fn judge_line<R: Print + AllocGlobal, J: Judge>(
     rt: &R,
     tally: &mut Tally,
     place: &Place,
-    judge: Judge,
+    judge: &J,
     line: &str,
 ) -> io::Result<()> {
     let Some((given, wants)) = line.split_once(" => ") else {
         return tally.note_other(rt, place, line);
     };
     let text = written_out(rt.alloc(), given)?;
-    let found = outcome(rt.alloc(), judge, text.as_str())?;
+    let found = judge.outcome(rt.alloc(), text.as_str())?;
     let wanted = written_out(rt.alloc(), wants)?;
     tally.compare(rt, place, (given, wanted.as_str()), found.as_str())
 }

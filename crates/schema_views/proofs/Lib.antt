@@ -1,0 +1,4 @@
+pub mod PlainBodies
+pub mod PlainTold
+pub mod Listing
+pub mod Telling
