@@ -1,32 +1,31 @@
 -- Calling any action keeps a relation that is kept by each write, each evaluation, each count and each taking back.
-use Rattle.std.proofs.Common.{◌≡◌, ℕ, zero, suc, List, [], ◌∷◌, ◌++◌, Bool, true, false, Option, Some, None, Result, Ok, Err}
-use Rattle.std.specs.Prelude.{IfOk, IfSome, if◌then◌else◌}
+use Rattle.std.proofs.Common.{ℕ, zero, suc, List, [], ◌∷◌, ◌++◌, Option, Some, None, Ok, Err}
+use Rattle.std.specs.Prelude.{IfOk, IfSome}
 use Rattle.snap_core.specs.declared.number.NodeNo.{NodeNo}
 use Rattle.pointer_core.specs.Path.{Path}
 use Rattle.pointer_core.specs.declared.refusal.Rule.{Rule}
 use Rattle.pointer_core.specs.declared.refusal.Rule.TheVariants as rule
-use Rattle.type_core.specs.Making.{Refused, Outcome}
+use Rattle.type_core.specs.Making.{Outcome}
 use Rattle.expr_syntax.specs.Syntax.{Expression, Expressions, Statement, Statements, no_more, more, set, put, push, insert, replace, drop, clear, apply, each, call, attempt, throw, done, run}
 use Rattle.model_syntax.specs.Shown.{ShownAction, ShownMiddleware, atomic, protect}
 use Rattle.edit_core.specs.declared.kind.Kind.{Kind}
 use Rattle.edit_core.specs.declared.kind.Kind.TheVariants.{Model, Array, Map}
-use Rattle.edit_core.specs.Labelled.{Labelled}
 use Rattle.tree_core.specs.Outcome as outcome
 use Rattle.tree_core.specs.Outcome.{or_refuse}
 use Rattle.tree_core.specs.Reading.{kind_at}
-use Rattle.eval_core.specs.Answer.{Answer, Answers, no_answers, answer}
+use Rattle.eval_core.specs.Answer.{Answer, no_answers, answer}
 use Rattle.eval_core.specs.Asking.{bound_at}
-use Rattle.eval_core.specs.Evaluating.{evaluated, all_evaluated, truth}
+use Rattle.eval_core.specs.Evaluating.{evaluated, all_evaluated}
 use Rattle.eval_core.specs.Pairing.{Anything}
 use Rattle.eval_core.specs.Run.{Eval, andthen}
-use Rattle.eval_core.specs.Scope.{Scope, Env}
-use Rattle.action_core.specs.Act.{State, Act, root_of, tells, refuses, looks, ◌>>=◌}
-use Rattle.action_core.specs.Behaving.{Behaving, Running, Callee, Acting, sight_in}
+use Rattle.eval_core.specs.Scope.{Env}
+use Rattle.action_core.specs.Act.{State, Act, root_of}
+use Rattle.action_core.specs.Behaving.{Running, Callee, sight_in}
 use Rattle.action_core.specs.Beginning.{Begun, frame_of, action_under, arguments_bound, action_begun, begun_of_kind, begun_by}
-use Rattle.action_core.specs.Calling.{guards, if_admitted, around, surrounded, running_on, body_run, called}
+use Rattle.action_core.specs.Calling.{around, surrounded, running_on, called}
 use Rattle.action_core.specs.Keeping.{EachFine, AreFine, IsFineEnv, EachGood, IsGoodStatement, AreGood, Keeping, Keeps, scope_of}
 use Rattle.action_core.specs.Layers.{Layer, layers_of}
-use Rattle.action_core.specs.Running.{two, three, items_read, one_of, over_each, is_budget, rescues, keeping, ran, ran_block}
+use Rattle.action_core.specs.Running.{two, three, items_read, over_each, is_budget, keeping, ran, ran_block}
 use Rattle.action_core.specs.Statements.{property_set, entry_put, item_inserted, item_replaced, part_dropped, snapshot_applied}
 use Rattle.action_core.proofs.Steps.{Gives, given, going_on, anything, telling, refusing, looking, thens, rescuing, taking_back, evaluating, counting, being_node, choosing}
 use Rattle.action_core.proofs.KeptWrites.{acting, to_node, pushing, clearing}

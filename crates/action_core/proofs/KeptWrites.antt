@@ -1,10 +1,9 @@
 -- What is kept by the writes of statements.
-use Rattle.std.proofs.Common.{◌≡◌, ℕ, List, [], ◌∷◌, ◌++◌, Bool, true, false, Option, Some, None, Result, Ok, Err, refl, subst}
+use Rattle.std.proofs.Common.{◌≡◌, List, [], ◌∷◌, ◌++◌, Bool, true, false, Option, Some, None, Ok, subst}
 use Rattle.std.specs.Prelude.{IfOk, unwrap_or}
 use Rattle.snap_core.specs.declared.number.NodeNo.{NodeNo}
 use Rattle.pointer_core.specs.Path.{Path}
 use Rattle.pointer_core.specs.declared.refusal.Rule.TheVariants as rule
-use Rattle.type_table.specs.Table.{Catalog}
 use Rattle.type_core.specs.Making.{Outcome}
 use Rattle.edit_core.specs.Edit.{Turn}
 use Rattle.edit_core.specs.Labelled.{Labelled}
@@ -15,15 +14,14 @@ use Rattle.tree_core.specs.Nodes.{may_write}
 use Rattle.tree_core.specs.Outcome.{◌>>=◌, refuse, provided, or_refuse}
 use Rattle.tree_core.specs.Reading.{size_at}
 use Rattle.tree_core.specs.Recorded.{tree_in}
-use Rattle.tree_core.specs.Writing.{Tree}
 use Rattle.eval_core.specs.Answer.{Answer}
 use Rattle.eval_core.specs.Pairing.{Anything}
 use Rattle.action_core.specs.Act.{State, Act, root_of, with_change}
 use Rattle.action_core.specs.Behaving.{Running, Callee, Acting, node_path, writes}
 use Rattle.action_core.specs.Giving.{removes}
 use Rattle.action_core.specs.Keeping.{Keeping, Keeps, GivesFine}
-use Rattle.action_core.specs.Running.{writes_named, writes_to, pushes, removes_all, clears}
-use Rattle.action_core.specs.Statements.{Naming, item_pushed, unsuited, given_at, named_written, pushed, removals, place_removed}
+use Rattle.action_core.specs.Running.{writes_to, pushes, removes_all, clears}
+use Rattle.action_core.specs.Statements.{Naming, item_pushed, unsuited, given_at, named_written}
 use Rattle.action_core.proofs.Steps.{anything, telling, looking, thens, writing, being_node}
 
 -- a key of the wrong kind changes nothing

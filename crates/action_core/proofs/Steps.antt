@@ -1,17 +1,14 @@
 -- What is kept by the runs that all others are put together from.
-use Rattle.std.proofs.Common.{◌≡◌, ℕ, suc, ◌+◌, List, Bool, true, false, Option, Some, None, Result, Ok, Err, refl, subst, sym, ap}
+use Rattle.std.proofs.Common.{◌≡◌, ℕ, suc, ◌+◌, Bool, true, false, Result, Ok, Err, refl}
 use Rattle.std.specs.Prelude.{IfOk, nat_lt, if◌then◌else◌}
 use Rattle.snap_core.specs.declared.number.NodeNo.{NodeNo}
 use Rattle.pointer_core.specs.Path.{Path}
 use Rattle.pointer_core.specs.declared.refusal.Rule.{Rule}
 use Rattle.pointer_core.specs.declared.refusal.Rule.TheVariants as rule
 use Rattle.type_core.specs.Making.{Refused, Outcome}
-use Rattle.edit_core.specs.Edit.{Turn}
 use Rattle.edit_core.specs.Labelled.{Labelled}
 use Rattle.tree_core.specs.Changed.{Changed}
-use Rattle.tree_core.specs.Nodes.{may_write}
-use Rattle.tree_core.specs.Outcome as outcome
-use Rattle.tree_core.specs.Outcome.{refuse, provided, or_refuse}
+use Rattle.tree_core.specs.Outcome.{refuse}
 use Rattle.tree_core.specs.Recorded.{tree_in}
 use Rattle.tree_core.specs.Writing.{Tree}
 use Rattle.eval_core.specs.Answer.{Answer, plain, node, several}
@@ -21,8 +18,8 @@ use Rattle.eval_core.specs.Run.{Run, Eval, Fault, andthen, lift, joined, ended}
 use Rattle.eval_core.specs.Scope as scope
 use Rattle.eval_core.specs.Scope.{Scope}
 use Rattle.view_engine.specs.Told as views
-use Rattle.action_core.specs.Act.{State, Ran, Act, root_of, tells, refuses, looks, continued, ◌>>=◌, instead, or_else, unless_refused, all_or_nothing, with_change, with_met, taken_back}
-use Rattle.action_core.specs.Behaving.{Behaving, sight_in, told, run_told, evaluates, path_in_frame, in_frame, changed_to, writes, most_statements, counts, on_node}
+use Rattle.action_core.specs.Act.{State, Act, root_of, tells, refuses, looks, continued, ◌>>=◌, instead, or_else, unless_refused, all_or_nothing, with_change}
+use Rattle.action_core.specs.Behaving.{sight_in, told, evaluates, in_frame, changed_to, writes, most_statements, counts, on_node}
 use Rattle.action_core.specs.Keeping.{Keeping, IsKept, Keeps, scope_of}
 
 -- Evaluating.
