@@ -1,26 +1,23 @@
 -- An action of a sound tree leads on.
-use Rattle.std.proofs.Common.{◌≡◌, ℕ, ◌≤◌, List, [], ◌∷◌, ◌++◌, Bool, true, false, Option, Some, None, Result, Ok, Err, refl, sym, subst, ap, arith, append-nil}
+use Rattle.std.proofs.Common.{◌≡◌, ℕ, ◌≤◌, List, [], ◌∷◌, Ok, refl, sym, subst, ap, arith, append-nil}
 use Rattle.std.specs.Prelude.{IfOk}
 use Rattle.snap_core.specs.Value.{IsPlain}
-use Rattle.snap_core.specs.declared.number.NodeNo.{NodeNo}
 use Rattle.type_table.specs.Table.{Catalog}
 use Rattle.type_core.specs.Making.{Outcome}
 use Rattle.type_core.specs.Sound.{IsSound}
 use Rattle.expr_syntax.specs.Syntax.{Expression}
 use Rattle.edit_core.specs.Labelled.{Labelled, bare}
 use Rattle.edit_core.specs.Logged.{LoggedEdit}
-use Rattle.edit_core.specs.Numbers.{AreNumbered}
 use Rattle.tree_core.specs.Changed.{Changed}
 use Rattle.tree_core.specs.Outcome as outcome
 use Rattle.tree_core.specs.Recorded as recording
 use Rattle.tree_core.specs.Recorded.{IsTreeOf, tree_in, after_settling}
 use Rattle.tree_core.specs.State.{State as Tree, recorded, patches_of}
-use Rattle.tree_core.specs.Writing.{Target, written}
+use Rattle.tree_core.specs.Writing.{Target}
 use Rattle.tree_core.proofs.Keeping.{Keeps as ChangeKeeps}
 use Rattle.tree_core.proofs.PlaceKeeping.{written-keeps}
 use Rattle.tree_laws.specs.Calls.{Writes, LeadsOn}
-use Rattle.tree_laws.specs.Laws.{IsDone}
-use Rattle.tree_laws.specs.Trees.{IsTypedTree, IsSoundTree}
+use Rattle.tree_laws.specs.Trees.{IsSoundTree}
 use Rattle.tree_laws.proofs.Joining.{goes-on}
 use Rattle.tree_laws.proofs.Loose.{settling-settles}
 use Rattle.tree_laws.proofs.Settling.{settling-leads}
@@ -28,8 +25,9 @@ use Rattle.tree_laws.proofs.SettlingSound.{settling-keeps}
 use Rattle.tree_laws.proofs.TreeRight.{writes-keep}
 use Rattle.tree_laws.proofs.Writes.{writes-lead}
 use Rattle.eval_core.specs.Answer.{Answer, Answers, no_answers, answer}
-use Rattle.eval_core.specs.Run.{Eval, Run}
-use Rattle.eval_core.specs.Scope.{Scope, Env}
+use Rattle.eval_core.specs.Asking.{most_views}
+use Rattle.eval_core.specs.Evaluating.{evaluated}
+use Rattle.eval_core.specs.Scope.{Env}
 use Rattle.eval_core.specs.Walking.{Item, given, standing, walked, read_item}
 use Rattle.eval_core.specs.declared.site.Site.{Site}
 use Rattle.plain_answers.specs.Plainness.{IsPlainAnswer, ArePlainAnswers, IsPlainEnv, HasPlainConstants}
@@ -38,8 +36,8 @@ use Rattle.plain_answers.proofs.Giving.{Gives, going_on}
 use Rattle.plain_answers.proofs.Readings.{IsPlainScope, held}
 use Rattle.plain_answers.proofs.Walks.{ArePlainItems, walking}
 use Rattle.plain_views.proofs.PlainTrees.{sight-plain, trees-plain}
-use Rattle.action_core.specs.Act.{State, root_of, with_change, taken_back}
-use Rattle.action_core.specs.Behaving.{Behaving, Running, Callee, sight_in}
+use Rattle.action_core.specs.Act.{State, root_of}
+use Rattle.action_core.specs.Behaving.{Behaving}
 use Rattle.action_core.specs.Calling.{called}
 use Rattle.action_core.specs.Giving.{Giving}
 use Rattle.action_core.specs.Giving as giving
@@ -164,7 +162,7 @@ module _ (behaving : Behaving) (well : IsPlainBehaving behaving) where
     evaluates = λ s fit e good env fine before. evaluates behaving well s fit.typed.plain e good env fine before;
     walks = λ s fit x fine before. walks behaving well s fit.typed.plain x fine before;
     binds = λ s fit callee fine action. bound-plain behaving well.sound callee fine (root_of s) action;
-    bound = λ s fit n. (tt, tt, tt);
+    bound = λ s fit n. (tt, (tt, tt));
     meets = λ A run s fit. (fit, record { on = still behaving.types s.tree s.tree.next; later = omega arith });
     counting = λ s fit. (fit, record { on = still behaving.types s.tree s.tree.next; later = omega arith });
     writing = λ target how s c fit fine e.

@@ -1,14 +1,11 @@
 -- Answers that are taken are plain: what is written, and what is made of it.
-use Rattle.std.proofs.Common.{◌≡◌, ℕ, List, [], ◌∷◌, Bool, true, false, Option, Some, None, Result, Ok, Err, refl, drop}
-use Rattle.std.specs.Prelude.{IfOk, IfSome, unwrap_or, decimal, ◌+◌, if◌then◌else◌}
+use Rattle.std.proofs.Common.{◌≡◌, ℕ, List, [], ◌∷◌, Bool, true, false, Option, Some, None, Ok, Err, refl, drop}
+use Rattle.std.specs.Prelude.{IfOk, IfSome, decimal, ◌+◌, if◌then◌else◌}
 use Rattle.std.specs.Option.{option_map, option_and_then}
-use Rattle.snap_core.specs.Value.{Value, null, boolean, integer, text, list, dict, Items, no_parts, part, IsPlain, ArePlain}
-use Rattle.snap_core.specs.declared.ident.Ident.{Ident}
+use Rattle.snap_core.specs.Value.{Value, null, boolean, integer, text, list, dict, Items, part, IsPlain, ArePlain}
 use Rattle.snap_core.specs.declared.number.ModelNo.{ModelNo}
 use Rattle.snap_core.specs.declared.number.NodeNo.{NodeNo}
-use Rattle.pointer_core.specs.Path.{Path}
 use Rattle.type_table.specs.Identifiers.{ident_of}
-use Rattle.type_table.specs.Table.{Catalog}
 use Rattle.type_core.specs.Making.{Outcome, Maker, mistyped, under, part_made, items_made, list_of, maker_of}
 use Rattle.type_core.specs.Sound.{IsSound}
 use Rattle.type_core.proofs.Again.{Makes-plain, IfSome-value_at}
@@ -24,7 +21,7 @@ use Rattle.eval_core.specs.Reading.{ident_value}
 use Rattle.plain_answers.specs.Plainness.{IsPlainAnswer, ArePlainAnswers}
 use Rattle.plain_views.proofs.PlainTrees.{sight-plain}
 use Rattle.view_engine.specs.TreeSight.{sight_of}
-use Rattle.action_core.specs.Taking.{Taking, Aim, plain_in, plains_in, model_at, items_at, first_aim, node_value, identifier_made, node_made, items_taken, list_taken, answer_made, answers_made}
+use Rattle.action_core.specs.Taking.{Taking, Aim, plain_in, plains_in, model_at, items_at, first_aim, node_value, node_made, items_taken, list_taken, answer_made, answers_made}
 
 -- The plain value that an answer is.
 

@@ -1,5 +1,5 @@
 -- A write of a plain answer is a write of a plain value.
-use Rattle.std.proofs.Common.{◌≡◌, ℕ, List, [], ◌∷◌, Bool, true, false, Option, Some, None, Result, Ok, Err, refl, subst, sym}
+use Rattle.std.proofs.Common.{◌≡◌, [], Bool, true, false, Option, Some, None, Ok, Err, refl, subst, sym}
 use Rattle.std.specs.Prelude.{IfOk, IfSome, if◌then◌else◌}
 use Rattle.snap_core.specs.Value.{Value, null, IsPlain}
 use Rattle.pointer_core.specs.Path.{Path}
@@ -9,13 +9,12 @@ use Rattle.type_table.specs.Table.{Catalog}
 use Rattle.type_core.specs.Making.{Outcome}
 use Rattle.type_core.specs.Sound.{IsSound}
 use Rattle.edit_core.specs.Labelled.{Labelled, bare}
-use Rattle.tree_core.specs.declared.place.Place.{Place}
 use Rattle.tree_core.specs.Changed.{Changed}
 use Rattle.edit_core.specs.Ways.{way_to, part_at}
 use Rattle.tree_core.specs.Outcome.{◌>>=◌, or_refuse, seen_from}
-use Rattle.tree_core.specs.Write.{Write, set, insert, remove, WritesPlain}
+use Rattle.tree_core.specs.Write.{Write, remove, WritesPlain}
 use Rattle.tree_core.specs.Writing.{Tree, Target, written, node_no}
-use Rattle.tree_laws.proofs.Writes.{Comes, comes}
+use Rattle.tree_laws.proofs.Writes.{comes}
 use Rattle.eval_core.specs.Answer.{Answer}
 use Rattle.plain_answers.specs.Plainness.{IsPlainAnswer}
 use Rattle.action_core.specs.Giving.{Giving, given, sets, inserts, removes, with_value, Site, aim_at, place_path, is_of_value, unless_refused, unless_fault, value_taken, site_of, nodes_given, answer_given}
