@@ -224,6 +224,12 @@ no-boss : does 0 (syntax.Statement.bind (codes "x") (get (two_sided Op.Item user
 unfolding lift looks counts joined ended andthen enters sight_of tells act.looks ◌>>=◌ or_else all_or_nothing evaluates writes behaving.counts
 no-boss = refl
 
+-- an integer past the greatest
+past-most : does 0 (set top (codes "count") (two_sided Op.Add (number_of 9007199254740991) (number_of 1)) ∷ []) one_todo
+    ≡ no_at_frame rule.Range
+unfolding lift looks counts joined ended andthen enters sight_of tells act.looks ◌>>=◌ or_else all_or_nothing evaluates writes behaving.counts
+past-most = refl
+
 -- a condition that is no truth
 no-truth : does 0 (syntax.Statement.choice nothing (statements []) (statements []) ∷ []) one_todo
     ≡ no_at_frame rule.Kind

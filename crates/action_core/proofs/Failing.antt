@@ -8,7 +8,7 @@ use Rattle.pointer_core.specs.declared.refusal.Rule.TheVariants as rule
 use Rattle.type_core.specs.Making.{Outcome}
 use Rattle.expr_syntax.specs.Syntax.{Expression}
 use Rattle.model_syntax.specs.Shown.{ShownMiddleware, atomic, protect}
-use Rattle.action_core.specs.Act.{State, Ran, Act, root_of, tells, refuses, looks, continued, ◌>>=◌, unless_refused, all_or_nothing}
+use Rattle.action_core.specs.Act.{State, Ran, Act, root_of, tells, refuses, looks, continued, ◌>>=◌, back_if_refused, all_or_nothing}
 use Rattle.action_core.specs.Behaving.{Behaving, evaluates}
 use Rattle.action_core.specs.Layers.{Layer, layers_of}
 use Rattle.action_core.specs.Beginning.{Begun, begun_by}
@@ -29,7 +29,7 @@ IsFalsely false = Unit {0}
 not_so : false ≡ true → ⊥
 not_so e = subst IsFalsely e tt
 
-refused_back : {A : Type 0} (s now : State) (o : Outcome A) → FailsBack s (unless_refused s.tree now o)
+refused_back : {A : Type 0} (s now : State) (o : Outcome A) → FailsBack s (back_if_refused s.tree now o)
 refused_back s now (Ok x) h = absurd (not_so h)
 refused_back s now (Err e) h = record { snapshot = refl; kept = refl }
 

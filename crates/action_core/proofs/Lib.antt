@@ -8,3 +8,4 @@ pub mod Failing
 pub mod Steps
 mod KeptWrites
 pub mod Kept
+mod GoingOn

@@ -18,7 +18,7 @@ use Rattle.eval_core.specs.Run.{Run, Eval, Fault, andthen, lift, joined, ended}
 use Rattle.eval_core.specs.Scope as scope
 use Rattle.eval_core.specs.Scope.{Scope}
 use Rattle.view_engine.specs.Told as views
-use Rattle.action_core.specs.Act.{State, Act, root_of, tells, refuses, looks, continued, ◌>>=◌, instead, or_else, unless_refused, all_or_nothing, with_change}
+use Rattle.action_core.specs.Act.{State, Act, root_of, tells, refuses, looks, continued, ◌>>=◌, instead, or_else, back_if_refused, all_or_nothing, with_change}
 use Rattle.action_core.specs.Behaving.{sight_in, told, evaluates, in_frame, changed_to, writes, most_statements, counts, on_node}
 use Rattle.action_core.specs.Keeping.{Keeping, IsKept, Keeps, scope_of}
 
@@ -92,7 +92,7 @@ unfolding or_else
 rescuing k P other act h g s fit = let first = h s fit in rescued k P s (act s).state other (act s).outcome first.fit first.rel first.fine g
 
 refused_back : (k : Keeping) {A : Type 0} (P : A → Type 0) (s now : State) (o : Outcome A) → k.Fit s → k.Fit now → k.Rel s now → IfOk o P
-    → IsKept k.Rel k.Fit P s (unless_refused s.tree now o)
+    → IsKept k.Rel k.Fit P s (back_if_refused s.tree now o)
 refused_back k P s now (Ok x) began fit rel fine = record { fit = fit; rel = rel; fine = fine }
 refused_back k P s now (Err e) began fit rel fine = let back = k.backing s now began fit rel in record { fit = back.0; rel = back.1; fine = tt }
 
@@ -122,12 +122,12 @@ writing k frame change h s fit = changed k frame s (change (tree_in s.tree)) fit
 
 pub counting : (k : Keeping) (frame : Path) → Keeps k Anything (counts frame)
 unfolding counts
-counting k frame s fit = by_room (nat_lt s.counted most_statements)
+counting k frame s fit = by_room (nat_lt s.counted most_statements) refl
   where
-    by_room : (b : Bool) → IsKept k.Rel k.Fit {A = Unit {0}} Anything s
+    by_room : (b : Bool) → nat_lt s.counted most_statements ≡ b → IsKept k.Rel k.Fit {A = Unit {0}} Anything s
         (if b then record { outcome = Ok tt; state = record s { counted = suc s.counted } } else record { outcome = refuse frame rule.Budget; state = s })
-    by_room true = let done = k.counting s fit in record { fit = done.0; rel = done.1; fine = tt }
-    by_room false = record { fit = fit; rel = k.stays s; fine = tt }
+    by_room true e = let done = k.counting s fit e in record { fit = done.0; rel = done.1; fine = tt }
+    by_room false e = record { fit = fit; rel = k.stays s; fine = tt }
 
 pub being_node : (k : Keeping) {A : Type 0} (P : A → Type 0) (frame : Path) (x : Answer) (use_node : NodeNo → Act A)
     → ((n : NodeNo) → Keeps k P (use_node n)) → Keeps k P (on_node frame x use_node)

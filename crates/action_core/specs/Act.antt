@@ -45,6 +45,7 @@ abbrev pub tried_from : Labelled → List LoggedEdit → List Tried
 tried_from x [] = []
 tried_from x (e ∷ es) = record { before = x; edit = e } ∷ tried_from (after_logged e x) es
 
+-- a change of the tree, and an evaluation, recorded
 abbrev pub with_change : Changed → State → State
 with_change c s = record s { tree = recorded.with_change c s.tree; tried = s.tried ++ tried_from (root_of s) c.edits }
 
@@ -61,6 +62,7 @@ pub record Ran (A : Type 0) : Type 0 where
   pub outcome : Outcome A
   pub state : State
 
+-- a run, from each state
 abbrev pub Act : Type 0 → Type 0
 Act A = State → Ran A
 
@@ -78,6 +80,7 @@ refuses path rule = tells (refuse path rule)
 unfoldable pub looks : {A : Type 0} → (Labelled → Outcome A) → Act A
 looks said s = record { outcome = said (root_of s); state = s }
 
+-- what follows a run, unless it is refused
 abbrev pub continued : {A B : Type 0} → State → (A → Act B) → Outcome A → Ran B
 continued s next (Ok x) = next x s
 continued s next (Err e) = record { outcome = Err e; state = s }
@@ -87,6 +90,7 @@ infixl 10 ◌>>=◌
 unfoldable pub ◌>>=◌ : {A B : Type 0} → Act A → (A → Act B) → Act B
 ◌>>=◌ first next s = let ran = first s in continued ran.state next ran.outcome
 
+-- another run, where one is refused
 abbrev pub instead : {A : Type 0} → State → (Refused → Act A) → Outcome A → Ran A
 instead s other (Ok x) = record { outcome = Ok x; state = s }
 instead s other (Err e) = other e s
@@ -95,10 +99,11 @@ instead s other (Err e) = other e s
 unfoldable pub or_else : {A : Type 0} → (Refused → Act A) → Act A → Act A
 or_else other first s = let ran = first s in instead ran.state other ran.outcome
 
-abbrev pub unless_refused : {A : Type 0} → Tree → State → Outcome A → Ran A
-unless_refused earlier now (Ok x) = record { outcome = Ok x; state = now }
-unless_refused earlier now (Err e) = record { outcome = Err e; state = taken_back earlier now }
+-- a refused run as if nothing had been written
+abbrev pub back_if_refused : {A : Type 0} → Tree → State → Outcome A → Ran A
+back_if_refused earlier now (Ok x) = record { outcome = Ok x; state = now }
+back_if_refused earlier now (Err e) = record { outcome = Err e; state = taken_back earlier now }
 
 -- a run that is taken back where it ends refused
 unfoldable pub all_or_nothing : {A : Type 0} → Act A → Act A
-all_or_nothing act s = let ran = act s in unless_refused s.tree ran.state ran.outcome
+all_or_nothing act s = let ran = act s in back_if_refused s.tree ran.state ran.outcome

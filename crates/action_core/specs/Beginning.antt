@@ -54,6 +54,7 @@ abbrev pub node_at : NodeNo → Labelled → Option ModelNo → Option Argument
 node_at n root (Some m) = node_argument n m (kind_at n.0 root)
 node_at n root None = None
 
+-- a plain argument, made by its type
 abbrev pub value_argument : Catalog → ℕ → Option ModelNo → Option Value → Option Argument
 value_argument types t target v = option_and_then (plain_argument target) (option_and_then (λ w. made_in (making types t (Some w))) v)
 
@@ -85,6 +86,7 @@ reached sight (as_given x) = Some x
 reached sight (to_be_found m i) = option_map node (sight.known m i)
 reached sight gone = None
 
+-- the names that the arguments are bound to
 abbrev pub all_reached : Sight → List Bound → Option Env
 all_reached sight [] = Some []
 all_reached sight (b ∷ bs) = option_and_then (λ x. option_map (λ env. (b.0, x) ∷ env) (all_reached sight bs)) (reached sight b.1)
@@ -97,6 +99,7 @@ pub record Begun : Type 0 where
   pub body : Statements
   pub env : Env
 
+-- models alone have actions
 abbrev pub action_under : Behaving → List ℕ → Kind → Option ShownAction
 action_under behaving name (Model m) = behaving.action_of m name
 action_under behaving name kind = None
@@ -111,6 +114,7 @@ arguments_bound behaving callee root action = do
   given ← or_refuse (arguments_of behaving.types root action.params callee.given) (frame_of callee root) rule.Arguments
   or_refuse (all_reached (sight_in behaving root) given) (frame_of callee root) rule.Reference
 
+-- an action with its arguments, and of a node of a kind
 abbrev pub action_begun : Behaving → Callee → Labelled → ShownAction → Outcome Begun
 action_begun behaving callee root action = do
   env ← arguments_bound behaving callee root action

@@ -51,6 +51,7 @@ pub record Acting : Type 0 where
   -- how an action is called among them
   pub call : Callee → Act (Unit {0})
 
+-- where a node stands, and what is seen of a snapshot
 abbrev pub node_path : NodeNo → Labelled → Path
 node_path n root = unwrap_or (path_to n.0 root) []
 
@@ -59,6 +60,7 @@ sight_in behaving root = sight_of (record { table = behaving.types.table; tree =
 
 -- Evaluating.
 
+-- a refusal of an evaluation is told by a path
 abbrev pub told : {A : Type 0} → views.Telling → Result A Fault → Outcome A
 told t (Ok x) = Ok x
 told t (Err fault) = refuse (views.path_of t fault.site) fault.rule
@@ -82,10 +84,12 @@ path_in_frame frame rule.Dead path = frame
 path_in_frame frame rule.Kind path = frame
 path_in_frame frame r path = path
 
+-- an outcome, as the frame is told of it
 abbrev pub in_frame : {A : Type 0} → Path → Outcome A → Outcome A
 in_frame frame (Ok x) = Ok x
 in_frame frame (Err e) = refuse (path_in_frame frame e.rule e.path) e.rule
 
+-- the state that a change leaves, unless it is refused
 abbrev pub changed_to : State → Outcome Changed → Ran (Unit {0})
 changed_to s (Ok changed) = record { outcome = Ok tt; state = with_change changed s }
 changed_to s (Err e) = record { outcome = Err e; state = s }

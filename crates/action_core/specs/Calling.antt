@@ -20,6 +20,7 @@ use Rattle.action_core.specs.Running.{ran_block}
 abbrev pub guards : Behaving → Path → NodeNo → Expression → Act Bool
 guards behaving frame n condition = evaluates behaving frame (λ s. andthen (evaluated s condition (bound_at s.sight n)) (truth s))
 
+-- what is guarded, where the condition holds
 abbrev pub if_admitted : Path → Act (Unit {0}) → Bool → Act (Unit {0})
 if_admitted frame inner admitted = if admitted then inner else refuses frame rule.Guarded
 

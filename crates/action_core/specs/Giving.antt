@@ -61,6 +61,7 @@ pub record Site : Type 0 where
   pub way : List Turn
   pub node : Labelled
 
+-- the type of a place, and what an answer takes the place of there
 abbrev pub aim_at : Catalog → Site → Place → Giving → Aim
 aim_at types site place giving =
     record {
@@ -83,9 +84,9 @@ is_of_value rule.Identifier = true
 is_of_value rule = false
 
 -- what comes after the rules of the place, which are the same for whatever value is written
-abbrev pub unless_refused : {A : Type 0} → Outcome Changed → Outcome A → Outcome A
-unless_refused (Err e) rest = if is_of_value e.rule then rest else Err e
-unless_refused (Ok changed) rest = rest
+abbrev pub after_place : {A : Type 0} → Outcome Changed → Outcome A → Outcome A
+after_place (Err e) rest = if is_of_value e.rule then rest else Err e
+after_place (Ok changed) rest = rest
 
 -- A node that isn't taken is alive, which is told of the place, or dead.
 abbrev pub unless_fault : {A : Type 0} → Path → Option Rule → Outcome A → Outcome A
@@ -110,11 +111,12 @@ site_of target root = do
 
 -- An answer that holds nodes: null in its place meets the rules of the place, and no identifier is null.
 abbrev pub nodes_given : Catalog → Target → Giving → Answer → Tree → Outcome Changed
-nodes_given types target giving x tree = unless_refused (written types target (with_value giving null) tree) (do
+nodes_given types target giving x tree = after_place (written types target (with_value giving null) tree) (do
   site ← site_of target tree.root
   made ← value_taken types site target.place giving x
   written types target (with_value giving made) tree)
 
+-- an answer that is a plain value is written as that
 abbrev pub answer_given : Catalog → Target → Giving → Answer → Tree → Option Value → Outcome Changed
 answer_given types target giving x tree (Some v) = written types target (with_value giving v) tree
 answer_given types target giving x tree None = nodes_given types target giving x tree

@@ -1,5 +1,5 @@
 -- What a relation between the state before a run and the one behind it has to keep, so that calling any action keeps it.
-use Rattle.std.specs.Prelude.{◌≡◌, ℕ, suc, List, [], ◌∷◌, Ok, IfOk, IfSome}
+use Rattle.std.specs.Prelude.{◌≡◌, ℕ, suc, nat_lt, true, List, [], ◌∷◌, Ok, IfOk, IfSome}
 use Rattle.snap_core.specs.declared.number.ModelNo.{ModelNo}
 use Rattle.snap_core.specs.declared.number.NodeNo.{NodeNo}
 use Rattle.expr_syntax.specs.Syntax.{Expression, Expressions, Statement, Statements, no_more, more, set, put, push, insert, replace, drop, clear, apply, each, call, attempt, throw, done, run}
@@ -13,7 +13,7 @@ use Rattle.eval_core.specs.Evaluating.{evaluated}
 use Rattle.eval_core.specs.Run.{Run}
 use Rattle.eval_core.specs.Scope.{Scope, Env}
 use Rattle.action_core.specs.Act.{State, Ran, Act, root_of, with_change, with_met, taken_back}
-use Rattle.action_core.specs.Behaving.{Behaving, Callee, sight_in}
+use Rattle.action_core.specs.Behaving.{Behaving, Callee, sight_in, most_statements}
 use Rattle.action_core.specs.Beginning.{arguments_bound}
 use Rattle.action_core.specs.Giving.{Giving, given, sets, inserts, removes}
 use Rattle.action_core.specs.Running.{items_read}
@@ -95,7 +95,8 @@ pub record Keeping : Type 1 where
   pub bound : (s : State) → Fit s → (n : NodeNo) → IsFineEnv Fine (bound_at (sight_in behaving (root_of s)) n)
   -- each change of a state is kept
   pub meets : (A : Type 0) (run : Run A) (s : State) → Fit s → Fit (with_met run s) × Rel s (with_met run s)
-  pub counting : (s : State) → Fit s → Fit (record s { counted = suc s.counted }) × Rel s (record s { counted = suc s.counted })
+  pub counting : (s : State) → Fit s → nat_lt s.counted most_statements ≡ true
+      → Fit (record s { counted = suc s.counted }) × Rel s (record s { counted = suc s.counted })
   pub writing : (target : Target) (giving : Giving) (s : State) (c : Changed) → Fit s → GivesFine Fine giving
       → given behaving.types target giving (tree_in s.tree) ≡ Ok c → Fit (with_change c s) × Rel s (with_change c s)
   pub backing : (earlier now : State) → Fit earlier → Fit now → Rel earlier now

@@ -28,13 +28,15 @@ abbrev pub surrounds : List ℕ → ShownMiddleware → Bool
 surrounds name (atomic around) = has_name name around
 surrounds name (protect around condition) = has_name name around
 
-abbrev pub naming : List ℕ → NodeNo → List ShownMiddleware → List Layer
-naming name n [] = []
-naming name n (m ∷ ms) = if surrounds name m then record { node = n; middleware = m } ∷ naming name n ms else naming name n ms
+-- those of a node's middlewares that surround the actions of a name
+abbrev pub named_layers : List ℕ → NodeNo → List ShownMiddleware → List Layer
+named_layers name n [] = []
+named_layers name n (m ∷ ms) =
+    if surrounds name m then record { node = n; middleware = m } ∷ named_layers name n ms else named_layers name n ms
 
 -- the middleware of one node, in the order of the schema
 abbrev pub node_layers : Behaving → List ℕ → Label → Kind → List Layer
-node_layers behaving name l (Model m) = naming name (record { 0 = l.number }) (behaving.middleware_of m)
+node_layers behaving name l (Model m) = named_layers name (record { 0 = l.number }) (behaving.middleware_of m)
 node_layers behaving name l kind = []
 
 abbrev pub own_layers : Behaving → List ℕ → Option Label → List Layer

@@ -29,6 +29,7 @@ abbrev pub all_read : Scope → List Item → Eval (List Answer)
 all_read s [] = scope.gives []
 all_read s (i ∷ is) = andthen (read_item s i) (λ x. andthen (all_read s is) (λ xs. scope.gives (x ∷ xs)))
 
+-- what is walked, all of it
 abbrev pub items_read : Scope → Answer → Eval (List Answer)
 items_read s x = andthen (walked s x) (all_read s)
 
@@ -73,11 +74,11 @@ over_each body (x ∷ xs) = do
   one ← body x
   over_each body xs
 
--- what is run where a block is refused; a request that ran too many statements is over
 abbrev pub is_budget : Rule → Bool
 is_budget rule.Budget = true
 is_budget r = false
 
+-- what is run where a block is refused; a request that ran too many statements is over
 abbrev pub rescues : Act (Unit {0}) → Refused → Act (Unit {0})
 rescues other e = if is_budget e.rule then tells (Err e) else other
 

@@ -60,7 +60,7 @@ abbrev pub part_place : NodeNo → Answer → Option Place
 part_place n (plain (text key)) = Some (place.Key n key)
 part_place n x = item_place n x
 
--- Statements.
+-- What each statement that writes names.
 
 abbrev pub property_set : NodeNo → List ℕ → Answer → Naming
 property_set n name x = record { node = n; tokens = name ∷ []; place = Some (place.Prop n name); giving = sets x }
@@ -90,6 +90,7 @@ unsuited running n path root = do
   way ← or_refuse (way_to n.0 root) [] rule.Dead
   provided (may_write running way root) path rule.Protected (refuse [] rule.Kind)
 
+-- at a place, or at none
 abbrev pub given_at : Catalog → List NodeNo → Naming → Path → Tree → Option Place → Outcome Changed
 given_at types running w path tree (Some at) = given types (record { running = running; place = at; named = Some path }) w.giving tree
 given_at types running w path tree None = unsuited running w.node path tree.root
@@ -98,6 +99,7 @@ given_at types running w path tree None = unsuited running w.node path tree.root
 abbrev pub named_written : Catalog → List NodeNo → Naming → Tree → Outcome Changed
 named_written types running w tree = given_at types running w (node_path w.node tree.root ++ w.tokens) tree w.place
 
+-- a write at the end of an array as it is
 abbrev pub pushed : Catalog → List NodeNo → NodeNo → Answer → Tree → Outcome Changed
 pushed types running n x tree = named_written types running (item_pushed n x (unwrap_or (size_at n.0 tree.root) 0)) tree
 
@@ -112,6 +114,7 @@ abbrev pub entry_removals : NodeNo → Entries Label → List Place
 entry_removals n no_entries = []
 entry_removals n (entry key x es) = place.Key n key ∷ entry_removals n es
 
+-- a map is cleared, and a model isn't
 abbrev pub kind_removals : NodeNo → Entries Label → Kind → Outcome (List Place)
 kind_removals n es (kind.Map t) = Ok (entry_removals n es)
 kind_removals n es kind = refuse [] rule.Kind
@@ -127,5 +130,6 @@ removals n root = do
   node ← or_refuse (node_of n.0 root) [] rule.Dead
   node_removals n node
 
+-- one of them taken out
 abbrev pub place_removed : Catalog → List NodeNo → Place → Tree → Outcome Changed
 place_removed types running at tree = given types (record { running = running; place = at; named = None }) removes tree

@@ -70,6 +70,7 @@ stands_there n None = false
 abbrev pub unless_taken : Bool → Option Rule
 unless_taken taken = if taken then None else Some Rule.Alive
 
+-- a node is taken at a reference, and where it stands now
 abbrev pub node_fault : Taking → NodeNo → Aim → Option Rule
 node_fault by n aim =
     if is_none (node_of n.0 by.root) then Some Rule.Dead else unless_taken (is_some (model_at by aim) || stands_there n aim.held)
@@ -101,6 +102,7 @@ identifier_made by n m =
     then Ok (ident_value (identifier_in ((typing_of by.types.table).identifier_of m) (node_value by n)))
     else mistyped
 
+-- at a reference by the identifier, and elsewhere by the snapshot
 abbrev pub node_made : Taking → NodeNo → Option ModelNo → Outcome Value
 node_made by n (Some m) = identifier_made by n m
 node_made by n None = Ok (node_value by n)

@@ -14,4 +14,4 @@
 
 mod laws;
 
-pub use laws::failed_atomics_leave_all;
+pub use laws::{failed_atomics_leave_all, requests_go_on};

@@ -164,7 +164,7 @@ module _ (behaving : Behaving) (well : IsPlainBehaving behaving) where
     binds = λ s fit callee fine action. bound-plain behaving well.sound callee fine (root_of s) action;
     bound = λ s fit n. (tt, (tt, tt));
     meets = λ A run s fit. (fit, record { on = still behaving.types s.tree s.tree.next; later = omega arith });
-    counting = λ s fit. (fit, record { on = still behaving.types s.tree s.tree.next; later = omega arith });
+    counting = λ s fit e. (fit, record { on = still behaving.types s.tree s.tree.next; later = omega arith });
     writing = λ target how s c fit fine e.
         let led = change-leads behaving.types well.sound target how s.tree fit fine c e in (led.sound, record { on = led.on; later = led.later });
     backing = λ earlier now began fit led.

@@ -17,7 +17,7 @@ use Rattle.tree_core.specs.Writing.{Tree, Target, written, node_no}
 use Rattle.tree_laws.proofs.Writes.{comes}
 use Rattle.eval_core.specs.Answer.{Answer}
 use Rattle.plain_answers.specs.Plainness.{IsPlainAnswer}
-use Rattle.action_core.specs.Giving.{Giving, given, sets, inserts, removes, with_value, Site, aim_at, place_path, is_of_value, unless_refused, unless_fault, value_taken, site_of, nodes_given, answer_given}
+use Rattle.action_core.specs.Giving.{Giving, given, sets, inserts, removes, with_value, Site, aim_at, place_path, is_of_value, after_place, unless_fault, value_taken, site_of, nodes_given, answer_given}
 use Rattle.action_core.specs.Keeping.{GivesFine}
 use Rattle.action_core.specs.Taking.{Taking, plain_in, fault_in, answer_made}
 use Rattle.action_laws.proofs.Plain.{value-plain, made-plain}
@@ -38,7 +38,7 @@ late : {A : Type 0} (b : Bool) (rest : Outcome A) (o : Outcome A) (x : A) → (r
 late true rest o x r e never = e
 late false rest o x r e never = absurd (never e)
 
-not-refused : {A : Type 0} (o : Outcome Changed) (rest : Outcome A) (x : A) → unless_refused o rest ≡ Ok x → rest ≡ Ok x
+not-refused : {A : Type 0} (o : Outcome Changed) (rest : Outcome A) (x : A) → after_place o rest ≡ Ok x → rest ≡ Ok x
 not-refused (Ok c) rest x e = e
 not-refused {A} (Err r) rest x e = late (is_of_value r.rule) rest rest x (Err r) e (λ h. cc)
 
