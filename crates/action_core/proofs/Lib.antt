@@ -1,0 +1,11 @@
+mod Office
+mod Actions
+mod ExamplesTaking
+mod ExamplesActions
+mod ExamplesMiddleware
+mod ExamplesRefused
+pub mod Failing
+pub mod Steps
+mod KeptWrites
+pub mod Kept
+mod GoingOn

@@ -1,0 +1,11 @@
+pub mod Taking
+pub mod Giving
+pub mod Act
+pub mod Behaving
+pub mod Statements
+pub mod Running
+pub mod Layers
+pub mod Beginning
+pub mod Calling
+pub mod Keeping
+pub mod Laws

@@ -1,0 +1,4 @@
+mod Plain
+mod Arguments
+mod Writes
+mod Leading

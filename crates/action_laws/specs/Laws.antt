@@ -1,0 +1,41 @@
+-- What calling an action does to a tree.
+use Rattle.std.specs.Prelude.{ℕ, ◌≤◌, List, IfSome}
+use Rattle.snap_core.specs.declared.number.ModelNo.{ModelNo}
+use Rattle.type_table.specs.Table.{Catalog}
+use Rattle.type_core.specs.Sound.{IsSound}
+use Rattle.model_syntax.specs.Shown.{ShownAction}
+use Rattle.tree_core.specs.Recorded.{after_settling}
+use Rattle.tree_core.specs.State.{State as Tree}
+use Rattle.tree_laws.specs.Calls.{LeadsOn}
+use Rattle.tree_laws.specs.Laws.{IsDone}
+use Rattle.tree_laws.specs.Trees.{IsSoundTree}
+use Rattle.plain_answers.specs.Plainness.{HasPlainConstants, HasPlainBodies, ArePlainAnswers}
+use Rattle.action_core.specs.Act.{State}
+use Rattle.action_core.specs.Behaving.{Behaving, Running, Callee}
+use Rattle.action_core.specs.Calling.{called}
+use Rattle.action_core.specs.Keeping.{AreGood}
+
+-- the types are without a fault, and each constant in a view or an action is plain
+pub record IsPlainBehaving (behaving : Behaving) : Type 0 where
+  pub sound : IsSound behaving.types
+  pub views : HasPlainBodies behaving.viewing
+  pub actions : (m : ModelNo) (name : List ℕ) → IfSome (behaving.action_of m name) (λ (a : ShownAction). AreGood HasPlainConstants a.body)
+
+-- What was kept leads on, the tree is sound, and no number is given out twice.
+pub record Leads (types : Catalog) (before after : Tree) : Type 0 where
+  pub on : LeadsOn before after
+  pub sound : IsSoundTree types after
+  pub later : before.next ≤ after.next
+
+-- an action of a sound tree, refused or not, whatever actions run
+abbrev pub ActionsLead : Type 0
+ActionsLead =
+    (behaving : Behaving) → IsPlainBehaving behaving → (room : ℕ) (running : Running) (callee : Callee) → ArePlainAnswers callee.given
+    → (s : State) → IsSoundTree behaving.types s.tree → Leads behaving.types s.tree (called behaving room running callee s).state.tree
+
+-- and settling after it
+abbrev pub ActionsAreDone : Type 0
+ActionsAreDone =
+    (behaving : Behaving) → IsPlainBehaving behaving → (room : ℕ) (running : Running) (callee : Callee) → ArePlainAnswers callee.given
+    → (s : State) → IsSoundTree behaving.types s.tree
+    → IsDone behaving.types s.tree (after_settling behaving.types (called behaving room running callee s).state.tree)

@@ -1,0 +1,12 @@
+ghost use Rattle.action_laws.specs.Laws.{ActionsLead, ActionsAreDone};
+
+/// The patches that an action keeps, refused or not, fit in turn, lead to the snapshot behind it and, taken back, to the
+/// one before, and a sound tree stays sound.
+pub fn actions_lead()
+    ensures { ActionsLead }
+{}
+
+/// So it is after settling, and then the tree is settled.
+pub fn actions_are_done()
+    ensures { ActionsAreDone }
+{}
