@@ -9,3 +9,4 @@ pub mod Steps
 mod KeptWrites
 pub mod Kept
 mod GoingOn
+mod InTurn
