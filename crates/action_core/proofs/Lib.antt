@@ -10,3 +10,4 @@ mod KeptWrites
 pub mod Kept
 mod GoingOn
 mod InTurn
+pub mod Composing

@@ -62,6 +62,9 @@ pub record Ran (A : Type 0) : Type 0 where
   pub outcome : Outcome A
   pub state : State
 
+abbrev pub came : {A : Type 0} → Outcome A → State → Ran A
+came outcome s = record { outcome = outcome; state = s }
+
 -- a run, from each state
 abbrev pub Act : Type 0 → Type 0
 Act A = State → Ran A
