@@ -1,7 +1,7 @@
 ghost use Rattle.action_laws.specs.Laws.{ActionsLead, ActionsAreDone};
 
 /// The patches that an action keeps, refused or not, fit in turn, lead to the snapshot behind it and, taken back, to the
-/// one before, and a sound tree stays sound.
+/// one before; rolling back gives the very nodes of then; and a sound tree stays sound.
 pub fn actions_lead()
     ensures { ActionsLead }
 {}

@@ -3,8 +3,8 @@
 //! - `specs/Laws`: what holds of calling an action of a sound tree. Each law is the contract of one function here.
 //!
 //! Whoever runs actions can rely on this: what an action keeps, refused or not, fits in turn and leads from the snapshot
-//! before it to the one behind it, its inverses lead back, and a sound tree stays sound; and so it is once the tree is
-//! settled.
+//! before it to the one behind it, its inverses lead back, rolling back gives the very nodes of then, and a sound tree
+//! stays sound; and so it is once the tree is settled.
 #![tactic(auto)]
 
 mod laws;
