@@ -1,5 +1,5 @@
 -- What views of a document answer.
-use Rattle.std.specs.Prelude.{ℕ, List, [], ◌∷◌, ◌++◌, Option, Some, None, option_and_then, unwrap_or}
+use Rattle.std.specs.Prelude.{ℕ, List, [], ◌∷◌, ◌++◌, Option, option_and_then, unwrap_or}
 use Rattle.std.specs.Option.{option_map}
 use Rattle.snap_core.specs.Value.{Value}
 use Rattle.pointer_core.specs.Path.{Path}

@@ -1,22 +1,12 @@
 ghost use Rattle.std.specs.Prelude.{◌≡◌, ◌<◌, ◌≤◌, IsTrue, false, length, IfOk};
 
 use crate::streams::Only;
-use edge_core::{Calls, Door, DoorFault, Inputs, MemoryDoor, RealDoor};
-use snap_core::Bytes;
-use std::alloc::{AllocError, Global};
+use edge_core::{Door, DoorFault, RealDoor};
 use std::io;
 use std::io::{Print, Read, Write};
 use std::net::{OpenListener, TcpListener, TcpStream};
 use std::rt::Net;
 use std::test::Fail;
-
-fn inputs(alloc: Global, texts: &[&[u8]]) -> Result<Inputs, AllocError> {
-    let mut inputs = Inputs::new(alloc);
-    for text in texts {
-        inputs.push(Bytes::from_slice(alloc, text)?)?;
-    }
-    Ok(inputs)
-}
 
 /// Writes back what the open link brings, to its end.
 fn echo_link<D: Door>(door: &mut D) -> Result<(), DoorFault>
@@ -47,46 +37,6 @@ fn echo<D: Door>(door: &mut D, port: Option<u16>) -> Result<usize, DoorFault>
         door.shut();
     }
     Ok(8)
-}
-
-fn holds(door: &MemoryDoor, faults: u64, written: [Option<&[u8]>; 3]) -> bool {
-    door.faults() == faults
-        && door.written(0) == written[0]
-        && door.written(1) == written[1]
-        && door.written(2) == written[2]
-}
-
-#[test]
-fn each_call_of_a_door_in_memory_fails_in_turn(rt: HostRuntime) -> Result<(), Fail> {
-    let cases: [(u64, Result<usize, DoorFault>, &[u8], &[u8]); 14] = [
-        (0, Ok(2), b"ab", b"c"),
-        (1, Err(DoorFault), b"", b""),
-        (2, Err(DoorFault), b"", b""),
-        (3, Err(DoorFault), b"", b""),
-        (4, Err(DoorFault), b"", b""),
-        (5, Err(DoorFault), b"a", b""),
-        (6, Err(DoorFault), b"a", b""),
-        (7, Err(DoorFault), b"ab", b""),
-        (8, Err(DoorFault), b"ab", b""),
-        (9, Err(DoorFault), b"ab", b""),
-        (10, Err(DoorFault), b"ab", b""),
-        (11, Err(DoorFault), b"ab", b"c"),
-        (12, Err(DoorFault), b"ab", b"c"),
-        (13, Ok(2), b"ab", b"c"),
-    ];
-    for (failing, want, first, second) in cases {
-        let alloc = rt.alloc();
-        let fails = Calls::from_slice(alloc, &[failing])?;
-        let mut door = MemoryDoor::new(alloc, inputs(alloc, &[b"ab", b"c"])?, 1, 2, fails)?;
-        let echoed = echo(&mut door, None);
-        assert!(rt; echoed == want, "call {failing}");
-        let faults = u64::from(want.is_err());
-        assert!(rt;
-            holds(&door, faults, [Some(first), Some(second), None]),
-            "call {failing}"
-        );
-    }
-    Ok(())
 }
 
 #[test]

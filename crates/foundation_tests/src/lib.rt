@@ -1,4 +1,4 @@
-//! Tests of what no case reaches: the real world and the real door, doors in memory whose calls fail in turn, lists as they
+//! Tests of what no case reaches: the real world and the real door, lists as they
 //! are edited, copies, and the texts of refusals. They stand apart, since a crate that has tests is proved twice.
 #![tactic(auto)]
 
