@@ -9,3 +9,5 @@ pub mod Steps
 mod KeptWrites
 pub mod Kept
 mod GoingOn
+mod InTurn
+pub mod Composing

@@ -9,6 +9,7 @@ use Rattle.tree_core.specs.Changed.{Changed}
 use Rattle.tree_core.specs.Outcome.{refuse}
 use Rattle.tree_core.specs.Recorded as recorded
 use Rattle.tree_core.specs.State.{State as Tree}
+use Rattle.live_tree.specs.Laws.{given_back}
 use Rattle.eval_core.specs.Run.{Run, Entered}
 
 -- an edit that was made, and the snapshot before it
@@ -55,12 +56,15 @@ with_met run s = record s { met = s.met ++ record { own = run.own; entered = run
 -- The snapshot and the edits that are kept are again those of an earlier tree. No number is given out twice, so the next
 -- number stays.
 abbrev pub taken_back : Tree → State → State
-taken_back earlier now = record now { tree = record { tree = earlier.tree; next = now.tree.next; calls = earlier.calls } }
+taken_back earlier now = record now { tree = given_back earlier now.tree }
 
 -- What running comes to: an outcome, and the state that it leaves, also where it is refused.
 pub record Ran (A : Type 0) : Type 0 where
   pub outcome : Outcome A
   pub state : State
+
+abbrev pub came : {A : Type 0} → Outcome A → State → Ran A
+came outcome s = record { outcome = outcome; state = s }
 
 -- a run, from each state
 abbrev pub Act : Type 0 → Type 0

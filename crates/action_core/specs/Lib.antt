@@ -1,5 +1,6 @@
 pub mod Taking
 pub mod Giving
+pub mod Placing
 pub mod Act
 pub mod Behaving
 pub mod Statements

@@ -6,16 +6,17 @@ use Rattle.type_table.specs.Table.{Catalog}
 use Rattle.type_core.specs.Making.{Outcome}
 use Rattle.type_core.specs.Sound.{IsSound}
 use Rattle.expr_syntax.specs.Syntax.{Expression}
-use Rattle.edit_core.specs.Labelled.{Labelled, bare}
-use Rattle.edit_core.specs.Logged.{LoggedEdit}
+use Rattle.edit_core.specs.Labelled.{bare}
 use Rattle.tree_core.specs.Changed.{Changed}
 use Rattle.tree_core.specs.Outcome as outcome
 use Rattle.tree_core.specs.Recorded as recording
 use Rattle.tree_core.specs.Recorded.{IsTreeOf, tree_in, after_settling}
-use Rattle.tree_core.specs.State.{State as Tree, recorded, patches_of}
+use Rattle.tree_core.specs.State.{State as Tree, patches_of}
 use Rattle.tree_core.specs.Writing.{Target}
-use Rattle.tree_core.proofs.Keeping.{Keeps as ChangeKeeps}
+use Rattle.tree_core.proofs.Keeping.{Keeps as ChangeKeeps, undone}
 use Rattle.tree_core.proofs.PlaceKeeping.{written-keeps}
+use Rattle.live_tree.specs.Laws.{CanBeTakenBack}
+use Rattle.live_tree.proofs.TakenBack.{kept-recorded, kept-together}
 use Rattle.tree_laws.specs.Calls.{Writes, LeadsOn}
 use Rattle.tree_laws.specs.Trees.{IsSoundTree}
 use Rattle.tree_laws.proofs.Joining.{goes-on}
@@ -84,14 +85,14 @@ module _ (behaving : Behaving) (well : IsPlainBehaving behaving) (s : State) (pl
 
 -- Trees.
 
+-- nothing was kept, whatever numbers were given out
+abbrev numbered_on : Tree → ℕ → Tree
+numbered_on t next = record { tree = t.tree; next = next; calls = t.calls }
+
+still : (t : Tree) (next : ℕ) → LeadsOn t (numbered_on t next)
+still t next = record { on = record { more = []; logged = sym (append-nil (patches_of t)); leads = refl }; back = refl }
+
 module _ (types : Catalog) where
-  -- nothing was kept, whatever numbers were given out
-  abbrev numbered_on : Tree → ℕ → Tree
-  numbered_on t next = record { tree = t.tree; next = next; calls = t.calls }
-
-  still : (t : Tree) (next : ℕ) → LeadsOn t (numbered_on t next)
-  still t next = record { on = record { more = []; logged = sym (append-nil (patches_of t)); leads = refl }; back = refl }
-
   sound-later : (t : Tree) (next : ℕ) → t.next ≤ next → IsSoundTree types t → IsSoundTree types (numbered_on t next)
   sound-later t next later h =
       record {
@@ -106,12 +107,9 @@ module _ (types : Catalog) where
         value = h.value;
       }
 
-  stays : (t : Tree) → IsSoundTree types t → Leads types t t
-  stays t h = record { on = still t t.next; sound = h; later = omega arith }
-
-recorded-later : (value : Labelled) (es : List LoggedEdit) (next : ℕ) (t : Tree) → t.next ≤ next → t.next ≤ (recorded value es next t).next
-recorded-later value [] next t h = omega arith
-recorded-later value (e ∷ es) next t h = h
+-- a tree of which nothing was kept since can be taken back to it
+still-back : (t : Tree) (next : ℕ) → t.next ≤ next → CanBeTakenBack t (numbered_on t next)
+still-back t next later = record { calls = []; edited = tt; joined = refl; led = refl; later = later }
 
 -- a write
 module _ (types : Catalog) (sound : IsSound types) (target : Target) (how : Giving) (t : Tree) (h : IsSoundTree types t) (fine : GivesFine IsPlainAnswer how)
@@ -136,7 +134,7 @@ module _ (types : Catalog) (sound : IsSound types) (target : Target) (how : Givi
   change-leads = record {
     on = writes-lead types sound t (recording.with_change c t) h writes;
     sound = writes-keep types sound t (recording.with_change c t) h writes;
-    later = recorded-later c.value c.edits c.next t keeps.later;
+    back = kept-recorded c.value c.edits c.next t (recording.with_change c t) refl (undone t.next t.tree c keeps) keeps.later;
   }
 
 -- All that an action does.
@@ -145,37 +143,43 @@ module _ (behaving : Behaving) (well : IsPlainBehaving behaving) where
   abbrev IsFit : State → Type 0
   IsFit s = IsSoundTree behaving.types s.tree
 
-  record Led (a b : State) : Type 0 where
-    on : LeadsOn a.tree b.tree
-    later : a.tree.next ≤ b.tree.next
+  record Led (a b : Tree) : Type 0 where
+    on : LeadsOn a b
+    back : CanBeTakenBack a b
+
+  same : (t : Tree) → Led t t
+  same t = record { on = still t t.next; back = still-back t t.next (omega arith) }
 
   leading : Keeping
   leading = record {
     behaving = behaving;
-    Rel = Led;
+    Rel = λ a b. Led a.tree b.tree;
     Fit = IsFit;
     Fine = IsPlainAnswer;
     Good = HasPlainConstants;
     actions = well.actions;
-    stays = λ s. record { on = still behaving.types s.tree s.tree.next; later = omega arith };
-    goes_on = λ a b c first next. record { on = goes-on a.tree b.tree c.tree first.on next.on; later = omega (arith, first.later, next.later) };
+    stays = λ s. same s.tree;
+    goes_on = λ a b c first next.
+        record { on = goes-on a.tree b.tree c.tree first.on next.on; back = kept-together a.tree b.tree c.tree first.back next.back };
     evaluates = λ s fit e good env fine before. evaluates behaving well s fit.typed.plain e good env fine before;
     walks = λ s fit x fine before. walks behaving well s fit.typed.plain x fine before;
     binds = λ s fit callee fine action. bound-plain behaving well.sound callee fine (root_of s) action;
     bound = λ s fit n. (tt, (tt, tt));
-    meets = λ A run s fit. (fit, record { on = still behaving.types s.tree s.tree.next; later = omega arith });
-    counting = λ s fit e. (fit, record { on = still behaving.types s.tree s.tree.next; later = omega arith });
+    meets = λ A run s fit. (fit, same s.tree);
+    counting = λ s fit e. (fit, same s.tree);
     writing = λ target how s c fit fine e.
-        let led = change-leads behaving.types well.sound target how s.tree fit fine c e in (led.sound, record { on = led.on; later = led.later });
-    backing = λ earlier now began fit led.
-        (sound-later behaving.types earlier.tree now.tree.next led.later began, record { on = still behaving.types earlier.tree now.tree.next; later = led.later });
+        let led = change-leads behaving.types well.sound target how s.tree fit fine c e in (led.sound, record { on = led.on; back = led.back });
+    backing = λ earlier now began fit led. (
+      sound-later behaving.types earlier.tree now.tree.next led.back.later began,
+      record { on = still earlier.tree now.tree.next; back = still-back earlier.tree now.tree.next led.back.later },
+    );
   }
 
 pub actions-lead : ActionsLead
 unfolding leading
 actions-lead behaving well room running callee fine s fit =
     let kept = called_kept (leading behaving well) room running callee (fine-given callee.given fine) s fit in
-    record { on = kept.rel.on; sound = kept.fit; later = kept.rel.later }
+    record { on = kept.rel.on; back = kept.rel.back; sound = kept.fit }
 
 pub actions-done : ActionsAreDone
 actions-done behaving well room running callee fine s fit =

@@ -2,3 +2,4 @@ mod Plain
 mod Arguments
 mod Writes
 mod Leading
+mod Schemas

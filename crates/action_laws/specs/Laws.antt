@@ -1,11 +1,12 @@
 -- What calling an action does to a tree.
-use Rattle.std.specs.Prelude.{ℕ, ◌≤◌, List, IfSome}
+use Rattle.std.specs.Prelude.{ℕ, List, IfSome}
 use Rattle.snap_core.specs.declared.number.ModelNo.{ModelNo}
 use Rattle.type_table.specs.Table.{Catalog}
 use Rattle.type_core.specs.Sound.{IsSound}
 use Rattle.model_syntax.specs.Shown.{ShownAction}
 use Rattle.tree_core.specs.Recorded.{after_settling}
 use Rattle.tree_core.specs.State.{State as Tree}
+use Rattle.live_tree.specs.Laws.{CanBeTakenBack}
 use Rattle.tree_laws.specs.Calls.{LeadsOn}
 use Rattle.tree_laws.specs.Laws.{IsDone}
 use Rattle.tree_laws.specs.Trees.{IsSoundTree}
@@ -21,11 +22,11 @@ pub record IsPlainBehaving (behaving : Behaving) : Type 0 where
   pub views : HasPlainBodies behaving.viewing
   pub actions : (m : ModelNo) (name : List ℕ) → IfSome (behaving.action_of m name) (λ (a : ShownAction). AreGood HasPlainConstants a.body)
 
--- What was kept leads on, the tree is sound, and no number is given out twice.
+-- What was kept leads on and can be taken back, no number being given out twice, and the tree is sound.
 pub record Leads (types : Catalog) (before after : Tree) : Type 0 where
   pub on : LeadsOn before after
+  pub back : CanBeTakenBack before after
   pub sound : IsSoundTree types after
-  pub later : before.next ≤ after.next
 
 -- an action of a sound tree, refused or not, whatever actions run
 abbrev pub ActionsLead : Type 0
