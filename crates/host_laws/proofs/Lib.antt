@@ -1,3 +1,6 @@
 pub mod Copies
 pub mod Created
+pub mod Bodies
+pub mod Changed
 pub mod Staying
+pub mod Running
