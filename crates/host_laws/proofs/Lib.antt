@@ -4,3 +4,4 @@ pub mod Bodies
 pub mod Changed
 pub mod Staying
 pub mod Running
+pub mod Own

@@ -1,5 +1,5 @@
 -- What holds of documents, whatever requests come.
-use Rattle.std.specs.Prelude.{◌≡◌, List, [], All, Ok}
+use Rattle.std.specs.Prelude.{◌≡◌, ◌≢◌, ℕ, List, [], map, All, Some, Ok}
 use Rattle.snap_core.specs.Value.{Value, IsPlain}
 use Rattle.type_table.specs.Table.{Catalog}
 use Rattle.type_core.specs.Sound.{IsSound}
@@ -9,8 +9,10 @@ use Rattle.model_syntax.specs.Shown.{ShownBehaviour}
 use Rattle.doc_core.specs.Changing.{created}
 use Rattle.http_front.specs.Request.{Request}
 use Rattle.host_core.specs.Asking.{Visit, Answer, Steps}
-use Rattle.host_core.specs.Docs.{Docs}
-use Rattle.host_laws.specs.Runs.{IsShortList, Runs, AreTold}
+use Rattle.route_core.specs.Ask.{create, well, asked_by}
+use Rattle.host_core.specs.Docs.{Docs, AreNamed, find}
+use Rattle.host_core.specs.Laws.{Alike, on_doc}
+use Rattle.host_laws.specs.Runs.{IsShortList, Runs, AreTold, IsTaken, requests_on, replies_on}
 use Rattle.host_laws.specs.Sound.{IsSettledDocument, IsSettledSnapshot, AreSoundDocs}
 
 -- what is made of a plain value
@@ -33,3 +35,20 @@ abbrev pub RunsStaySound : Type 0
 RunsStaySound =
     (types : Catalog) (behaviours : List ShownBehaviour) (requests : List Request) (answers : List Answer) → IsSound types
     → All (λ (request : Request). IsShortList request.body) requests → Runs types behaviours [] requests answers → AreTold types [] answers
+
+-- What a request gets that makes no document, and what becomes of the document that it is on, goes by this document alone.
+abbrev pub OtherRepliesAreOwn : Type 0
+OtherRepliesAreOwn =
+    (visit : Visit) (docs others : Docs) (answer : Answer) (name : List ℕ)
+    → on_doc visit ≡ Some name → asked_by visit.request.method visit.request.path ≢ well (create name)
+    → find name others ≡ find name docs → AreNamed docs → AreNamed others → Steps visit docs answer
+    → (other : Answer) × Alike name answer other × Steps visit others other
+
+-- Of a host that begins with no documents and refuses nothing for want of room, the requests on one document get what they
+-- get of a host that gets them alone.
+abbrev pub RunsAreOwn : Type 0
+RunsAreOwn =
+    (types : Catalog) (behaviours : List ShownBehaviour) (requests : List Request) (answers : List Answer) (name : List ℕ)
+    → Runs types behaviours [] requests answers → All IsTaken answers
+    → (own : List Answer) × Runs types behaviours [] (requests_on name requests) own
+    × (map (λ (answer : Answer). answer.reply) own ≡ replies_on name requests answers)
