@@ -1,7 +1,7 @@
 -- Documents that show one snapshot differ in the numbers of their nodes alone.
 use Rattle.std.proofs.Common.{◌≡◌, ℕ, List, Bool, true, false, Option, Some, None, refl, sym, ap, subst, ◌∙◌, if◌then◌else◌}
 use Rattle.std.specs.Prelude.{IsSome}
-use Rattle.snap_core.specs.Value.{Value, list, dict, Items, Fields, no_parts, part, no_members, member}
+use Rattle.snap_core.specs.Value.{Value, list, dict, part, member}
 use Rattle.snap_core.specs.declared.ident.Ident.{Ident}
 use Rattle.snap_core.specs.declared.number.ModelNo.{ModelNo}
 use Rattle.type_table.specs.Table.{Catalog}
@@ -11,7 +11,7 @@ use Rattle.edit_core.specs.declared.kind.Kind.TheVariants.{Array, Map, Model}
 use Rattle.edit_core.specs.Labelled.{Label, Labelled, Branches, Entries, leaf, many, keyed, no_branches, branch, no_entries, entry, bare, bare_items, bare_fields}
 use Rattle.edit_core.specs.Labelling.{IsLabelledBy, AreLabelledBy, HoldLabelledBy, IfArray, IfRecord}
 use Rattle.edit_core.specs.Typing.{Typing}
-use Rattle.tree_core.specs.Reading.{Sought, is_sought, or_node, sought_in, sought_in_items, sought_in_entries, resolved}
+use Rattle.tree_core.specs.Reading.{Sought, is_sought, or_node, sought_in, sought_in_items, sought_in_entries}
 use Rattle.tree_core.specs.Settling.{safe_target, item_type}
 use Rattle.tree_core.specs.State.{State}
 use Rattle.tree_core.specs.TypesTyping.{typing_of, root_type, type_under}

@@ -1,5 +1,5 @@
 -- What is made of a plain value is sound and settled.
-use Rattle.std.proofs.Common.{◌≡◌, List, [], Option, Some, None, Ok, Err, refl, sym, ap, subst, ◌∙◌}
+use Rattle.std.proofs.Common.{◌≡◌, Option, Some, None, Ok, Err, refl, subst}
 use Rattle.std.proofs.lemmas.List.Elements.{All-nil}
 use Rattle.snap_core.specs.Value.{Value, IsPlain}
 use Rattle.pointer_core.specs.Path.{Path}
@@ -20,9 +20,7 @@ use Rattle.tree_laws.proofs.Loose.{settling-settles}
 use Rattle.tree_laws.proofs.NewTrees.{new-sound}
 use Rattle.tree_laws.proofs.SettlingSound.{settling-keeps}
 use Rattle.doc_core.specs.Changing.{created, tried, unless_twice}
-use Rattle.doc_core.specs.Documents.{IsCopy}
-use Rattle.host_core.specs.Sound.{IsSoundSnapshot}
-use Rattle.host_laws.specs.Laws.{IsWellMade, CreatedAreSound}
+use Rattle.host_laws.specs.Laws.{CreatedAreSound}
 use Rattle.host_laws.specs.Sound.{IsSettledDocument, IsSettledSnapshot}
 use Rattle.host_laws.proofs.Copies.{settled-copies}
 

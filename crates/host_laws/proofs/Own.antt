@@ -20,7 +20,7 @@ use Rattle.route_core.specs.Ask.{Ask, try, list, create, discard, show, replace,
 use Rattle.host_replies.specs.Replies.{rule_reply, removed_reply}
 use Rattle.host_core.specs.Answering.{Done}
 use Rattle.host_core.specs.Asking.{Visit, Answer, unchanged, doc_read, creating, discarding, after_done, On, Shows, Resolves, Views, Replaces, Changes, AnswersAsk, AnswersAsked, Steps}
-use Rattle.host_core.specs.Docs.{Doc, Docs, AreNamed, are_full, find, with_snapshot, without}
+use Rattle.host_core.specs.Docs.{Doc, Docs, AreNamed, are_full, find, without}
 use Rattle.host_core.specs.Laws.{Alike, named_in, name_asked, on_doc}
 use Rattle.host_core.specs.Reading.{value_in}
 use Rattle.host_core.proofs.Finding.{find-with_snapshot, find-without}

@@ -1,6 +1,6 @@
 -- What a request tells of the documents that it finds, and what a run tells.
-use Rattle.std.proofs.Common.{◌≡◌, ℕ, List, [], ◌∷◌, Bool, true, false, Option, Some, None, inl, inr, ⊎_elim, refl, sym, ap, subst, ◌∙◌, if◌then◌else◌}
-use Rattle.std.specs.Prelude.{◌≢◌, ◌⊎◌, All, is_some, MatchOption}
+use Rattle.std.proofs.Common.{◌≡◌, ℕ, List, [], ◌∷◌, true, false, Option, Some, None, inl, inr, ⊎_elim, refl, sym, ap, subst, ◌∙◌, if◌then◌else◌}
+use Rattle.std.specs.Prelude.{◌≢◌, ◌⊎◌, is_some, MatchOption}
 use Rattle.std.specs.List.{AllByRecursion}
 use Rattle.std.specs.Str.{bytes_eq}
 use Rattle.std.proofs.lemmas.List.Elements.{All-nil, recursion_from_All}
@@ -18,8 +18,8 @@ use Rattle.route_core.specs.Ask.{Ask, try, list, create, discard, show, replace,
 use Rattle.host_replies.specs.Replies.{rule_reply, removed_reply}
 use Rattle.host_core.specs.Answering.{Done}
 use Rattle.host_core.specs.Asking.{Visit, Answer, unchanged, doc_read, creating, discarding, after_done, On, Shows, Resolves, Views, Replaces, Changes, AnswersAsk, AnswersAsked, Steps}
-use Rattle.host_core.specs.Docs.{Doc, Docs, AreNamed, are_full, find, with_snapshot, without}
-use Rattle.host_core.specs.Laws.{name_asked, on_doc}
+use Rattle.host_core.specs.Docs.{Doc, Docs, AreNamed, are_full, find, without}
+use Rattle.host_core.specs.Laws.{name_asked}
 use Rattle.host_core.specs.Reading.{value_in}
 use Rattle.host_core.specs.Sound.{TellsChange}
 use Rattle.host_core.proofs.Finding.{find-with_snapshot, find-without}
@@ -49,10 +49,10 @@ module _ (types : Catalog) (n : List ℕ) (docs : Docs) (answer : Answer) (v w :
   discard-told : AreNamed docs → answer ≡ discarding n docs → Told
   discard-told named e =
       let gone : find n answer.docs ≡ None = ap (λ a. find n a.docs) e ∙ by (find n docs) was in absurd (cc) where
-    by : (o : Option Value) → o ≡ Some v
-        → find n (if is_some o then record { reply = removed_reply n; docs = without n docs } else unchanged docs (rule_reply rule.Unknown)).docs ≡ None
-    by (Some x) e = find-without n docs named
-    by None e = absurd (cc)
+        by : (o : Option Value) → o ≡ Some v
+            → find n (if is_some o then record { reply = removed_reply n; docs = without n docs } else unchanged docs (rule_reply rule.Unknown)).docs ≡ None
+        by (Some x) e = find-without n docs named
+        by None e = absurd (cc)
 
   on-told : (Does : Value → Done → Type 0) → ((done : Done) → Does v done → StaysSettled types v done) → On n docs Does answer → Told
   on-told Does keeps on = by (find n docs) was on where

@@ -1,8 +1,7 @@
 -- Documents that are sound and settled, and what they show.
-use Rattle.std.specs.Prelude.{◌≡◌, All}
+use Rattle.std.specs.Prelude.{All}
 use Rattle.snap_core.specs.Value.{Value}
 use Rattle.type_table.specs.Table.{Catalog}
-use Rattle.edit_core.specs.Labelled.{bare}
 use Rattle.tree_core.specs.State.{State}
 use Rattle.tree_laws.specs.Tied.{IsSettled}
 use Rattle.doc_core.specs.Documents.{IsCopy}

@@ -11,4 +11,6 @@
 
 mod laws;
 
-pub use laws::{created_are_sound, documents_stay_sound, other_replies_are_own, runs_are_own, runs_stay_sound};
+pub use laws::{
+    created_are_sound, documents_stay_sound, other_replies_are_own, runs_are_own, runs_stay_sound,
+};
