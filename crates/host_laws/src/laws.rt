@@ -1,0 +1,26 @@
+ghost use Rattle.host_laws.specs.Laws.{CreatedAreSound, DocumentsStaySound, OtherRepliesAreOwn, RunsAreOwn, RunsStaySound};
+
+/// A new document is sound and settled.
+pub fn created_are_sound()
+    ensures { CreatedAreSound }
+{}
+
+/// A request leaves sound documents sound.
+pub fn documents_stay_sound()
+    ensures { DocumentsStaySound }
+{}
+
+/// Whatever requests come to a host with no documents, all of its documents are sound, and replies tell their changes.
+pub fn runs_stay_sound()
+    ensures { RunsStaySound }
+{}
+
+/// What a request gets that makes no document goes by its own document alone, be the host full or not.
+pub fn other_replies_are_own()
+    ensures { OtherRepliesAreOwn }
+{}
+
+/// Where no document is refused for want of room, requests on one document get what they get of a host of their own.
+pub fn runs_are_own()
+    ensures { RunsAreOwn }
+{}
