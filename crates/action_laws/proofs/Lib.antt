@@ -3,3 +3,5 @@ mod Arguments
 mod Writes
 mod Leading
 mod Schemas
+mod Settled
+mod Nothing

@@ -5,9 +5,12 @@
 //!
 //! Whoever runs actions can rely on this: what an action keeps, refused or not, fits in turn and leads from the snapshot
 //! before it to the one behind it, its inverses lead back, rolling back gives the very nodes of then, and a sound tree
-//! stays sound; and so it is once the tree is settled.
+//! stays sound; and so it is once the tree is settled. A failed atomic action of a settled tree leaves nothing.
 #![tactic(auto)]
 
 mod laws;
 
-pub use laws::{actions_are_done, actions_lead, schemas_behave_plainly};
+pub use laws::{
+    actions_are_done, actions_lead, failed_atomics_are_nothing, schemas_behave_plainly,
+    settled_trees_stay,
+};
