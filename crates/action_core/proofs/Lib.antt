@@ -1,6 +1,7 @@
 mod Office
 mod Actions
 mod ExamplesTaking
+mod ExamplesNested
 mod ExamplesActions
 mod ExamplesMiddleware
 mod ExamplesRefused

@@ -53,9 +53,10 @@ items_of_shape _ = None
 abbrev pub items_at : Taking → Aim → Option ℕ
 items_at by aim = items_of_shape (judged_by by.types.table (list tt no_parts) aim.type)
 
--- the first of the items, and those behind it
-abbrev pub first_aim : ℕ → List Labelled → Aim
-first_aim t held = record { type = t; held = slice_get held 0 }
+-- An item may be the node that stands at its index. No node stands at its own place in a list within a list.
+abbrev pub item_aim : Answer → ℕ → List Labelled → Aim
+item_aim (several xs) t held = record { type = t; held = None }
+item_aim x t held = record { type = t; held = slice_get held 0 }
 
 -- The first node that isn't taken: it is dead, or it is alive and stands neither at a reference nor at its own place.
 
@@ -87,7 +88,7 @@ abbrev mutual
 
   pub fault_among : Taking → Answers → ℕ → List Labelled → Option Rule
   fault_among by no_answers t held = None
-  fault_among by (answer x xs) t held = or_later (fault_in by x (first_aim t held)) (fault_among by xs t (drop 1 held))
+  fault_among by (answer x xs) t held = or_later (fault_in by x (item_aim x t held)) (fault_among by xs t (drop 1 held))
 
 -- What the type makes of an answer whose nodes are taken, its limits aside.
 
@@ -125,4 +126,4 @@ abbrev mutual
   -- the items, each beside what stands at its index
   pub answers_made : Taking → Answers → List Labelled → List Maker
   answers_made by no_answers held = []
-  answers_made by (answer x xs) held = (λ t. answer_made by x (first_aim t held)) ∷ answers_made by xs (drop 1 held)
+  answers_made by (answer x xs) held = (λ t. answer_made by x (item_aim x t held)) ∷ answers_made by xs (drop 1 held)

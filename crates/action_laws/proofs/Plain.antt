@@ -21,7 +21,7 @@ use Rattle.eval_core.specs.Reading.{ident_value}
 use Rattle.plain_answers.specs.Plainness.{IsPlainAnswer, ArePlainAnswers}
 use Rattle.plain_views.proofs.PlainTrees.{sight-plain}
 use Rattle.view_engine.specs.TreeSight.{sight_of}
-use Rattle.action_core.specs.Taking.{Taking, Aim, plain_in, plains_in, model_at, items_at, first_aim, node_value, node_made, items_taken, list_taken, answer_made, answers_made}
+use Rattle.action_core.specs.Taking.{Taking, Aim, plain_in, plains_in, model_at, items_at, item_aim, node_value, node_made, items_taken, list_taken, answer_made, answers_made}
 
 -- The plain value that an answer is.
 
@@ -126,4 +126,4 @@ module _ (by : Taking) (sound : IsSound by.types) (whole : IsPlain (bare by.root
 
     all-plain : (xs : Answers) → ArePlainAnswers xs → (held : List Labelled) → AllPlain (answers_made by xs held)
     all-plain no_answers fine held = tt
-    all-plain (answer x xs) fine held = ((λ t. made-plain x fine.0 (first_aim t held)), all-plain xs fine.1 (drop 1 held))
+    all-plain (answer x xs) fine held = ((λ t. made-plain x fine.0 (item_aim x t held)), all-plain xs fine.1 (drop 1 held))
