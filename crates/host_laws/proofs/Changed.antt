@@ -1,5 +1,5 @@
 -- What requests on a document that is sound and settled make of it.
-use Rattle.std.proofs.Common.{◌≡◌, List, Ok, Err, inl, inr, refl, sym, ap, subst, ◌∙◌, IfOk}
+use Rattle.std.proofs.Common.{◌≡◌, List, Ok, Err, inl, inr, refl, sym, ap, subst, ◌∙◌, IfOk, arith}
 use Rattle.std.specs.Prelude.{◌⊎◌}
 use Rattle.snap_core.specs.Value.{Value, IsPlain}
 use Rattle.patch_core.specs.Fits.{LeadsTo}
@@ -21,9 +21,10 @@ use Rattle.host_core.specs.Answering.{Done, change_done, patching, replacing, st
 use Rattle.host_core.specs.Asking.{Visit, Changes, Replaces}
 use Rattle.host_core.specs.Reading.{Read, Lists, value_in}
 use Rattle.host_core.specs.Sound.{IsSoundSnapshot, TellsChange}
-use Rattle.host_laws.specs.Runs.{IsShortList}
+use Rattle.host_laws.specs.Runs.{IsShort}
 use Rattle.host_laws.specs.Sound.{IsSettledSnapshot}
 use Rattle.host_laws.proofs.Bodies.{patches-plain, value-plain}
+use Rattle.host_laws.proofs.Counting.{few-patches}
 use Rattle.host_laws.proofs.Created.{kept, shown}
 
 -- the snapshot after it is sound and settled; it is the one before, or the reply tells how it changed
@@ -75,7 +76,7 @@ replaces-settled visit sound v done settled (s, copy, is) =
           change-settled visit.types v s (replaced visit.types w s) sound copy settled
           (λ after e. changes-lead.by_snapshot visit.types w s after (copy-sound visit.types v s copy settled.sound) plain e)
 
-pub changes-settled : (visit : Visit) → IsSound visit.types → IsShortList visit.request.body → (v : Value) (done : Done) → IsSettledSnapshot visit.types v
+pub changes-settled : (visit : Visit) → IsSound visit.types → IsShort visit.request.body → (v : Value) (done : Done) → IsSettledSnapshot visit.types v
     → Changes visit v done → StaysSettled visit.types v done
 changes-settled visit sound short v done settled (s, copy, given, lists, is) = subst (StaysSettled visit.types v) (sym is) (by given lists) where
   by : (given : Read (List Patch)) → Lists visit.request.body given → StaysSettled visit.types v (patching visit.types s given)
@@ -83,4 +84,4 @@ changes-settled visit sound short v done settled (s, copy, given, lists, is) = s
   by (Ok patches) lists =
       change-settled visit.types v s (patched visit.types patches s) sound copy settled
       (λ after e. changes-lead.by_patches visit.types patches s after (copy-sound visit.types v s copy settled.sound)
-      (patches-plain visit.request.body patches lists) (short patches lists) e)
+      (patches-plain visit.request.body patches lists) (omega (arith, short, few-patches visit.request.body patches lists)) e)

@@ -25,7 +25,7 @@ use Rattle.host_core.specs.Sound.{TellsChange}
 use Rattle.host_core.proofs.Finding.{find-with_snapshot, find-without}
 use Rattle.host_core.proofs.OneDocument.{names-ascend, others-stay}
 use Rattle.host_laws.specs.Laws.{RunsStaySound}
-use Rattle.host_laws.specs.Runs.{IsShortList, Runs, IsTold, AreTold}
+use Rattle.host_laws.specs.Runs.{IsShort, Runs, IsTold, AreTold}
 use Rattle.host_laws.specs.Sound.{AreSoundDocs, IsSettledSnapshot}
 use Rattle.host_laws.proofs.Changed.{StaysSettled}
 use Rattle.host_laws.proofs.Staying.{Keeps, each-found, shows-keeps, resolves-keeps, views-keeps, replaces-keeps, changes-keeps, stay-sound}
@@ -80,7 +80,7 @@ module _ (types : Catalog) (n : List ℕ) (docs : Docs) (answer : Answer) (v w :
         absurd (cc)
 
 -- a request whose body is short, to sound documents of types that have no fault
-module _ (visit : Visit) (sound : IsSound visit.types) (short : IsShortList visit.request.body) (docs : Docs) (named : AreNamed docs) (fine : AreSoundDocs visit.types docs)
+module _ (visit : Visit) (sound : IsSound visit.types) (short : IsShort visit.request.body) (docs : Docs) (named : AreNamed docs) (fine : AreSoundDocs visit.types docs)
     (n : List ℕ) (answer : Answer) (v w : Value) (was : find n docs ≡ Some v) (is : find n answer.docs ≡ Some w) where
   abbrev ToldHere : Type 0
   ToldHere = (w ≡ v) ⊎ TellsChange v (record { reply = answer.reply; snapshot = w })
@@ -114,7 +114,7 @@ module _ (visit : Visit) (sound : IsSound visit.types) (short : IsShortList visi
   asked-told (wrong allow) given others = others (λ e. cc)
   asked-told (well ask) given others = ask-told ask given others
 
-step-told : (visit : Visit) → IsSound visit.types → IsShortList visit.request.body → (docs : Docs) (answer : Answer) → AreNamed docs → AreSoundDocs visit.types docs
+step-told : (visit : Visit) → IsSound visit.types → IsShort visit.request.body → (docs : Docs) (answer : Answer) → AreNamed docs → AreSoundDocs visit.types docs
     → Steps visit docs answer → IsTold visit.types docs answer
 step-told visit sound short docs answer named fine steps =
     record {
@@ -126,10 +126,10 @@ step-told visit sound short docs answer named fine steps =
     }
 
 module _ (types : Catalog) (behaviours : List ShownBehaviour) (sound : IsSound types) where
-  abbrev IsShort : Request → Type 0
-  IsShort request = IsShortList request.body
+  abbrev HasShort : Request → Type 0
+  HasShort request = IsShort request.body
 
-  run-told : (requests : List Request) (docs : Docs) (answers : List Answer) → AllByRecursion IsShort requests → AreNamed docs → AreSoundDocs types docs
+  run-told : (requests : List Request) (docs : Docs) (answers : List Answer) → AllByRecursion HasShort requests → AreNamed docs → AreSoundDocs types docs
       → Runs types behaviours docs requests answers → AreTold types docs answers
   run-told [] docs [] short named fine runs = tt
   run-told [] docs (answer ∷ answers) short named fine runs = absurd runs
@@ -141,5 +141,5 @@ module _ (types : Catalog) (behaviours : List ShownBehaviour) (sound : IsSound t
 
 pub runs-told : RunsStaySound
 runs-told types behaviours requests answers sound short runs =
-    run-told types behaviours sound requests [] answers (recursion_from_All (λ (r : Request). IsShortList r.body) requests short) tt
+    run-told types behaviours sound requests [] answers (recursion_from_All (λ (r : Request). IsShort r.body) requests short) tt
     (All-nil (λ (d : Doc). IsSettledSnapshot types d.snapshot)) runs

@@ -20,7 +20,7 @@ use Rattle.host_core.specs.Asking.{Visit, Answer, unchanged, doc_made, doc_read,
 use Rattle.host_core.specs.Docs.{Doc, Docs, are_full, find, with_doc, with_snapshot, without}
 use Rattle.host_core.specs.Reading.{Read, value_in}
 use Rattle.host_laws.specs.Laws.{DocumentsStaySound}
-use Rattle.host_laws.specs.Runs.{IsShortList}
+use Rattle.host_laws.specs.Runs.{IsShort}
 use Rattle.host_laws.specs.Sound.{IsSettledSnapshot}
 use Rattle.host_laws.proofs.Bodies.{value-plain}
 use Rattle.host_laws.proofs.Changed.{StaysSettled, same-settled, replaces-settled, changes-settled}
@@ -62,7 +62,7 @@ module _ (P : Value → Type 0) where
   ]
 
 -- a request whose body is short, to documents of types that have no fault
-module _ (visit : Visit) (sound : IsSound visit.types) (short : IsShortList visit.request.body) where
+module _ (visit : Visit) (sound : IsSound visit.types) (short : IsShort visit.request.body) where
   abbrev AreFine : Docs → Type 0
   AreFine docs = Each (IsSettledSnapshot visit.types) docs
 

@@ -12,7 +12,7 @@ use Rattle.host_core.specs.Asking.{Visit, Answer, Steps}
 use Rattle.route_core.specs.Ask.{create, well, asked_by}
 use Rattle.host_core.specs.Docs.{Docs, AreNamed, find}
 use Rattle.host_core.specs.Laws.{Alike, on_doc}
-use Rattle.host_laws.specs.Runs.{IsShortList, Runs, AreTold, IsTaken, requests_on, replies_on}
+use Rattle.host_laws.specs.Runs.{IsShort, Runs, AreTold, IsTaken, requests_on, replies_on}
 use Rattle.host_laws.specs.Sound.{IsSettledDocument, IsSettledSnapshot, AreSoundDocs}
 
 -- what is made of a plain value
@@ -27,14 +27,14 @@ CreatedAreSound = (types : Catalog) (given : Value) (s : State) → IsSound type
 -- Where all documents are sound and settled, they are so after every request.
 abbrev pub DocumentsStaySound : Type 0
 DocumentsStaySound =
-    (visit : Visit) (docs : Docs) (answer : Answer) → IsSound visit.types → IsShortList visit.request.body
+    (visit : Visit) (docs : Docs) (answer : Answer) → IsSound visit.types → IsShort visit.request.body
     → AreSoundDocs visit.types docs → Steps visit docs answer → AreSoundDocs visit.types answer.docs
 
 -- So are those of a host that begins with none, after each of its requests; and each answer tells what it changed.
 abbrev pub RunsStaySound : Type 0
 RunsStaySound =
     (types : Catalog) (behaviours : List ShownBehaviour) (requests : List Request) (answers : List Answer) → IsSound types
-    → All (λ (request : Request). IsShortList request.body) requests → Runs types behaviours [] requests answers → AreTold types [] answers
+    → All (λ (request : Request). IsShort request.body) requests → Runs types behaviours [] requests answers → AreTold types [] answers
 
 -- What a request gets that makes no document, and what becomes of the document that it is on, goes by this document alone.
 abbrev pub OtherRepliesAreOwn : Type 0

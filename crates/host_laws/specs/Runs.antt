@@ -1,9 +1,8 @@
 -- Requests one after another, and what their answers tell of the documents.
-use Rattle.std.specs.Prelude.{◌≡◌, ◌≢◌, ◌<◌, ◌^◌, ◌⊎◌, ℕ, List, [], ◌∷◌, length, Bool, false, Option, Some, None, Ok, if◌then◌else◌}
+use Rattle.std.specs.Prelude.{◌≡◌, ◌≢◌, ◌<◌, ◌^◌, ◌⊎◌, ℕ, List, [], ◌∷◌, length, Bool, false, Option, Some, None, if◌then◌else◌}
 use Rattle.std.specs.Str.{bytes_eq}
 use Rattle.snap_core.specs.Value.{Value}
 use Rattle.pointer_core.specs.declared.refusal.Rule.TheVariants.{Full}
-use Rattle.patch_core.specs.declared.patch.Patch.{Patch}
 use Rattle.type_table.specs.Table.{Catalog}
 use Rattle.model_syntax.specs.Shown.{ShownBehaviour}
 use Rattle.http_front.specs.Reply.{Reply}
@@ -13,13 +12,12 @@ use Rattle.host_replies.specs.Replies.{rule_reply}
 use Rattle.host_core.specs.Asking.{Answer, Steps}
 use Rattle.host_core.specs.Docs.{Docs, AreNamed, find}
 use Rattle.host_core.specs.Laws.{name_asked}
-use Rattle.host_core.specs.Reading.{Lists}
 use Rattle.host_core.specs.Sound.{TellsChange}
 use Rattle.host_laws.specs.Sound.{AreSoundDocs}
 
--- a body spells fewer patches than a list of them can hold, if it spells patches
-abbrev pub IsShortList : List ℕ → Type 0
-IsShortList body = (patches : List Patch) → Lists body (Ok patches) → length patches < 2 ^ 31
+-- a body has so few bytes that a list can hold all patches that it spells
+abbrev pub IsShort : List ℕ → Type 0
+IsShort body = length body < 2 ^ 31
 
 -- each request gets its answer over the documents that the one before left
 abbrev pub Runs : Catalog → List ShownBehaviour → Docs → List Request → List Answer → Type 0
