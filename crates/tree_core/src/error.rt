@@ -41,7 +41,7 @@ impl From<MakeError> for TreeError {
 }
 
 /// A refusal by a rule at a place.
-pub(crate) fn refuse(path: Pointer, rule: Rule) -> TreeError
+pub fn refuse(path: Pointer, rule: Rule) -> TreeError
     ensures { result ≡ TreeError.Refused (record { path = path; rule = rule }) }
 {
     TreeError::Refused(Refusal { path, rule })

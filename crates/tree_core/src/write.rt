@@ -129,7 +129,7 @@ fn name_for(alloc: Global, way: &[Turn], to: &Target) -> Result<Pointer, AllocEr
 
 #[cycle(may_write)]
 /// Whether one of the running nodes is the node at the end of a way or above it.
-fn may_write(way: &[Turn], running: &[NodeNo], root: &Labelled) -> bool
+pub fn may_write(way: &[Turn], running: &[NodeNo], root: &Labelled) -> bool
     ensures { result ≡ nodes.may_write running.now (node.way way.now) (node.labelled root.now) }
 {
     match way {
