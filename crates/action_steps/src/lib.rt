@@ -10,6 +10,6 @@ mod writes;
 
 pub use acting::Acting;
 pub use beginning::{Begun, Callee, begin};
-pub use layers::{Layer, layers_around};
+pub use layers::{Guard, Layer, admits, layers_around};
 pub use parts::{CallParts, call_parts, condition, items, value};
 pub use writes::{apply, clear, drop, insert, push, put, replace, set};
