@@ -3,19 +3,14 @@ use Rattle.std.specs.Prelude.{◌≡◌, Bool, true, false, ◌&&◌, is_err, Re
 use Rattle.pointer_core.specs.Path.{Path}
 use Rattle.snap_core.specs.declared.number.NodeNo.{NodeNo}
 use Rattle.expr_syntax.specs.Syntax.{Expression}
-use Rattle.live_tree.specs.Laws.{given_back}
 use Rattle.view_engine.specs.declared.halt.RunError.{RunError}
 use Rattle.action_core.specs.Act.{Act, ◌>>=◌}
 use Rattle.action_core.specs.Behaving.{Behaving}
 use Rattle.action_core.specs.Calling.{guards, if_admitted}
-use Rattle.action_steps.specs.Doing.{Point, point, Acts}
+use Rattle.action_steps.specs.Doing.{Point, Acts, back_at}
 
 abbrev pub Done : Type 0
 Done = Result (Unit {0}) RunError
-
--- a point with the tree of an earlier one; no number is given out twice
-abbrev pub back_at : Point → Point → Point
-back_at a b = point (given_back a.tree b.tree) b.counted b.steps
 
 -- where a call that came to a point leaves a request: where it is all or nothing and ended with an error, with the tree as it was
 abbrev pub left_at : Bool → Done → Point → Point → Point
