@@ -1,7 +1,7 @@
 mod Plain
-mod Arguments
-mod Writes
-mod Leading
+pub mod Arguments
+pub mod Writes
+pub mod Leading
 mod Schemas
 mod Settled
 mod Nothing
