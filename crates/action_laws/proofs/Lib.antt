@@ -2,6 +2,6 @@ mod Plain
 pub mod Arguments
 pub mod Writes
 pub mod Leading
-mod Schemas
+pub mod Schemas
 mod Settled
 mod Nothing
