@@ -209,6 +209,7 @@ fn each<L: Ledger>(
 }
 
 /// One run of a block, with a name bound to a value.
+#[derive(Drop)]
 struct Turn<'a> {
     name: &'a Name,
     value: &'a Value,

@@ -18,6 +18,7 @@ use std::alloc::Global;
 use view_engine::{Env, RunError};
 
 /// An action that is called: of which node, its name, and what it is given.
+#[derive(Drop)]
 pub struct Callee<'a> {
     pub node: NodeNo,
     pub name: &'a str,
