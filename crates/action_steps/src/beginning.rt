@@ -6,9 +6,9 @@ ghost use Rattle.expr_core.specs.Schema.{action_at, action_count};
 ghost use Rattle.answer_ops.specs.View.{answers_of};
 ghost use Rattle.live_tree.specs.Contents.{state};
 ghost use Rattle.plain_answers.specs.Plainness.{ArePlainAnswers, IsPlainEnv, HasPlainConstants};
-ghost use Rattle.action_core.specs.Beginning.{action_under, begun_by, frame_of};
+ghost use Rattle.plain_answers.specs.EachExpression.{HoldsInBlock};
 ghost use Rattle.action_core.specs.Behaving.{node_path};
-ghost use Rattle.action_core.specs.Keeping.{AreGood};
+ghost use Rattle.action_core.specs.Beginning.{action_under, begun_by, frame_of};
 ghost use Rattle.action_steps.specs.Acting.{behaving_of, callee_of, env_of, Begins};
 
 use crate::acting::refused;
@@ -25,6 +25,7 @@ use tree_core::TreeError;
 use view_engine::{Env, RunError};
 
 /// An action that is called: of which node, its name, and what it is given.
+#[derive(Drop)]
 pub struct Callee<'a> {
     pub node: NodeNo,
     pub name: &'a str,
@@ -51,7 +52,7 @@ pub fn begin<'a>(
     requires { ArePlainAnswers (answers_of callee.now.args.now) }
     ensures outcome { Begins result (begun_by (behaving_of schema.now) caller.now (callee_of callee.now) (state tree.now).tree) }
     ensures bound { IfOk result (λ begun. IsPlainEnv (env_of begun.env)) }
-    ensures constants { IfOk result (λ begun. AreGood HasPlainConstants (block_shown begun.body.now)) }
+    ensures constants { IfOk result (λ begun. HoldsInBlock HasPlainConstants (block_shown begun.body.now)) }
 {
     let Some(kind) = tree.kind(callee.node) else {
         return Err(refused(caller, Rule::Dead));

@@ -140,6 +140,7 @@ fn is_among(name: &str, names: &[Name]) -> bool
 }
 
 /// A condition of a node, in the frame of the action that it guards.
+#[derive(Drop)]
 pub struct Guard<'a> {
     pub node: NodeNo,
     pub condition: &'a Expr,
