@@ -1,4 +1,6 @@
 //! The names that are bound in an action.
+#![tactic(auto, unfolding(view_engine::specs::TreeSight::sight_of))]
+
 ghost use Rattle.std.specs.Prelude.{◌≡◌, ◌++◌, IfOk, map, option_map};
 ghost use Rattle.list_core.specs.Outcome.{Gives};
 ghost use Rattle.answer_ops.specs.View.{answer_of, answers_of};
@@ -75,7 +77,8 @@ fn all_reached(
         ≡ option_map (λ bound. bound ++ bound_at sight n) (begun.all_reached sight (map bound_as given))) }
 {
     let Env { mut bindings } = own_names(alloc, tree, n)?;
-    while let Some(Given { name, argument }) = given.pop() {
+    while let Some(last) = given.pop() {
+        let Given { name, argument } = last;
         let Some(value) = reached(types, tree, argument) else {
             return Ok(None);
         };
@@ -103,13 +106,13 @@ pub(crate) fn own_names(alloc: Global, tree: &Tree, n: NodeNo) -> Result<Env, Al
     ensures { (types : Catalog) → IfOk result (λ env. env_of env ≡ bound_at (seen types (state tree.now).tree) n) }
 {
     let mut bindings = Parts::new(alloc);
-    bindings.push(binding(alloc, "root", root_of(tree))?)?;
-    bindings.push(binding(alloc, "self", n)?)?;
+    bindings.push(bound_node(alloc, "root", root_of(tree))?)?;
+    bindings.push(bound_node(alloc, "self", n)?)?;
     Ok(Env { bindings })
 }
 
 /// A name that stands for a node.
-fn binding(alloc: Global, name: &str, n: NodeNo) -> Result<Binding, AllocError>
+fn bound_node(alloc: Global, name: &str, n: NodeNo) -> Result<Binding, AllocError>
     ensures { IfOk result (λ bound. binding_of bound ≡ (name.now, node n)) }
 {
     match Name::read(alloc, name) {
