@@ -1,21 +1,20 @@
 //! Requests for actions.
-ghost use Rattle.std.specs.Prelude.{◌≡◌, All, None, IfOk, IfErr, OnOk, OnErr, option_map};
-ghost use Rattle.std.specs.Option.{option_copied};
+ghost use Rattle.std.specs.Prelude.{◌≡◌, All, None, IfOk, OnOk, OnErr};
 ghost use Rattle.snap_core.specs.Value.{ArePlain};
 ghost use Rattle.snap_core.specs.View.{items_view};
 ghost use Rattle.patch_core.specs.Printing.{HasPlainValues};
-ghost use Rattle.type_core.specs.Made.{refused_as};
 ghost use Rattle.plain_answers.specs.Plainness.{ArePlainAnswers};
 ghost use Rattle.answer_ops.specs.View.{answers_of};
-ghost use Rattle.expr_core.specs.Plain.{HavePlainActions};
+ghost use Rattle.expr_core.specs.Plain.{HavePlainConstants, HavePlainActions};
 ghost use Rattle.expr_core.specs.Schema.{behaviours_shown, views_of};
 ghost use Rattle.live_tree.specs.Contents.{state};
 ghost use Rattle.live_tree.specs.Laws.{CanBeTakenBack};
-ghost use Rattle.tree_core.specs.State.{State, mark_of};
+ghost use Rattle.tree_core.specs.State.{State, mark_of, patches_of};
 ghost use Rattle.action_steps.specs.Acting.{callee_of};
-ghost use Rattle.doc_core.specs.Acting.{acted_on, most_act_steps, node_there, plain_answers, run_of};
+ghost use Rattle.action_steps.specs.Doing.{spent};
+ghost use Rattle.doc_core.specs.Acting.{acted_on, after_outcome, after_run, most_act_steps, node_there, plain_answers, run_of};
 ghost use Rattle.doc_core.specs.Documents.{IsDocument};
-ghost use Rattle.doc_core.specs.Staging.{StagesAct, IsAsBefore, IsStagedAfter, TakesSteps, RunsTo, CostsOf};
+ghost use Rattle.doc_core.specs.Staging.{StagesAct, IsAsBefore, IsStagedAfter, TakesSteps, RunsTo, CostsOf, outcome_of};
 
 use crate::document::{Document, Staged};
 use crate::error::DocError;
@@ -28,7 +27,7 @@ use expr_syntax::Steps;
 use list_core::Parts;
 use live_tree::{Mark, Tree};
 use pointer_core::{Pointer, Refusal};
-use snap_core::{Items, NodeNo};
+use snap_core::{NodeNo, Snap};
 use std::alloc::{AllocError, Global};
 use std::sync::ledger::Ledger;
 use tree_core::Place;
@@ -46,7 +45,7 @@ impl Document {
         schema: &Schema,
         path: &Pointer,
         name: &str,
-        args: &Items,
+        args: &[Snap],
         steps: &mut Steps<L>,
     ) -> Result<Staged, DocError>
         requires document { IsDocument schema.now.types (state self.old) }
@@ -67,8 +66,18 @@ impl Document {
             name,
             args: &args,
         };
+        constants_are_plain(schema);
         act_on(&mut self.tree, alloc, schema, &callee, steps)
     }
+}
+
+// The constants in the views and in the actions of a schema are plain. It does nothing.
+fn constants_are_plain(schema: &Schema)
+    ensures views { HavePlainConstants (views_of schema.now) }
+    ensures actions { HavePlainActions (behaviours_shown schema.now) }
+{
+    let _ = schema.view(schema.root(), "");
+    let _ = schema.action(schema.root(), "");
 }
 
 // The node that a place holds.
@@ -82,11 +91,11 @@ fn node_at(tree: &Tree, schema: &Schema, place: &Place) -> Option<NodeNo>
 }
 
 // Values as the arguments of an action.
-fn answers(alloc: Global, values: &Items) -> Result<Values, AllocError>
+fn answers(alloc: Global, values: &[Snap]) -> Result<Values, AllocError>
     ensures { IfOk result (λ answers. answers_of answers ≡ plain_answers (items_view values.now)) }
 {
     let mut answers = Parts::new(alloc);
-    for value in values.as_slice() {
+    for value in values {
         answers.push(Value::Plain(value.clone_in(alloc)?))?;
     }
     Ok(answers)
@@ -101,6 +110,10 @@ fn act_on<L: Ledger>(
     steps: &mut Steps<L>,
 ) -> Result<Staged, DocError>
     requires { ArePlainAnswers (answers_of callee.now.args.now) }
+    ensures outcome { StagesAct result (after_run schema.now.types (run_of schema.now.types (behaviours_shown schema.now) (callee_of callee.now) (state tree.old))) (state tree.new) }
+    ensures ticks { TakesSteps result (spent (run_of schema.now.types (behaviours_shown schema.now) (callee_of callee.now) (state tree.old)).state.met) steps.old steps.new }
+    ensures kept { OnOk result (CanBeTakenBack (state tree.old) (state tree.new)) }
+    ensures unchanged { OnErr result (IsAsBefore (state tree.old) (state tree.new)) }
 {
     let mark = tree.mark();
     let fault = run_on(tree, alloc, schema, callee, steps)?;
@@ -140,6 +153,12 @@ fn with_fault(
     staged: Staged,
     fault: Option<Refusal>,
 ) -> Result<Staged, DocError>
+    requires patches { staged.patches ≡ patches_of (state tree.old) }
+    requires faultless { staged.fault ≡ None }
+    ensures outcome { StagesAct result (after_outcome (outcome_of fault) (state tree.old)) (state tree.new) }
+    ensures stays { OnOk result (state tree.new ≡ state tree.old) }
+    ensures unchanged { (before : State) → mark.0 ≡ mark_of before → CanBeTakenBack before (state tree.old)
+        → OnErr result (IsAsBefore before (state tree.new)) }
 {
     match fault {
         None => Ok(staged),
