@@ -1,8 +1,10 @@
 -- What an action comes to, step by step.
-use Rattle.std.proofs.Common.{◌≡◌, ℕ, ◌+◌, ◌≤◌, List, [], ◌∷◌, ◌++◌, Option, Some, None, Result, Ok, Err, OnOk, IfOk, sym, ap, subst, ◌∙◌}
+use Rattle.std.proofs.Common.{◌≡◌, ℕ, ◌+◌, ◌≤◌, List, [], ◌∷◌, ◌++◌, Option, Some, None, Result, Ok, Err, OnOk, IfOk, map, refl, sym, ap, subst, ◌∙◌}
 use Rattle.std.specs.Prelude.{All, option_and_then, unwrap_or}
 use Rattle.std.specs.Option.{option_map}
 use Rattle.snap_core.specs.Value.{Items, no_parts, part, ArePlain}
+use Rattle.snap_core.specs.View.{view, items_view}
+use Rattle.snap_core.specs.declared.snap.Snap.{Snap}
 use Rattle.snap_core.specs.declared.number.NodeNo.{NodeNo}
 use Rattle.pointer_core.specs.Path.{Path}
 use Rattle.pointer_core.specs.declared.refusal.Refusal.{Refusal}
@@ -19,6 +21,9 @@ use Rattle.tree_core.specs.Outcome.{◌>>=◌, or_refuse}
 use Rattle.tree_core.specs.Recorded.{after_settling}
 use Rattle.tree_core.specs.State.{State, patches_of}
 use Rattle.tree_core.specs.declared.place.Place.{Place}
+use Rattle.eval_core.specs.Answer.{Answer, plain, answer}
+use Rattle.answer_ops.specs.View.{answer_of, answers_from, answers_of}
+use Rattle.answer_ops.specs.declared.value.Value.{Value}
 use Rattle.plain_answers.specs.Plainness.{ArePlainAnswers}
 use Rattle.action_core.specs.Act.{Ran}
 use Rattle.action_core.specs.Behaving.{Callee}
@@ -29,10 +34,23 @@ use Rattle.doc_core.specs.declared.error.DocError.TheVariants as error
 use Rattle.doc_core.specs.Acting.{Acted, plain_answers, callee_given, run_of, after_refusal, after_outcome, after_run, acted_on, node_there, node_pointed, node_asked, most_act_steps}
 use Rattle.doc_core.specs.Staging.{Settles, StagesAct, TakesSteps, outcome_of}
 
+-- Arguments.
+
+-- a value as an answer
+abbrev pub value_answer : Snap → Answer
+value_answer v = plain (view v)
+
+listed : (vs : List Snap) → answers_from (map value_answer vs) ≡ plain_answers (items_view vs)
+listed [] = refl
+listed (v ∷ vs) = ap (answer (value_answer v)) (listed vs)
+
+pub all-answers : (vs : List Snap) (answers : List Value) → map answer_of answers ≡ map value_answer vs → answers_of answers ≡ plain_answers (items_view vs)
+all-answers vs answers same = ap answers_from same ∙ listed vs
+
 -- plain values are plain answers
 pub plain-given : (vs : Items) → ArePlain vs → ArePlainAnswers (plain_answers vs)
-plain-given no_parts plain = tt
-plain-given (part v vs) plain = (plain.0, plain-given vs plain.1)
+plain-given no_parts fine = tt
+plain-given (part v vs) fine = (fine.0, plain-given vs fine.1)
 
 -- A refusal beside patches.
 
