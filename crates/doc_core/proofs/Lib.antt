@@ -5,3 +5,4 @@ pub mod Leading
 pub mod Viewed
 pub mod ActionTyped
 pub mod Acts
+pub mod Atomic
