@@ -5,4 +5,5 @@ pub mod Leading
 pub mod Viewed
 pub mod ActionTyped
 pub mod Acts
+pub mod ActStages
 pub mod Atomic

@@ -1,10 +1,11 @@
 //! Requests for actions.
 ghost use Rattle.std.specs.Prelude.{◌≡◌, All, None, IfOk, OnOk, OnErr};
-ghost use Rattle.snap_core.specs.Value.{ArePlain};
+ghost use Rattle.snap_core.specs.Value.{IsPlain, ArePlain};
 ghost use Rattle.snap_core.specs.View.{items_view};
 ghost use Rattle.patch_core.specs.Printing.{HasPlainValues};
 ghost use Rattle.plain_answers.specs.Plainness.{ArePlainAnswers};
 ghost use Rattle.answer_ops.specs.View.{answers_of};
+ghost use Rattle.edit_core.specs.Labelled.{bare};
 ghost use Rattle.expr_core.specs.Plain.{HavePlainConstants, HavePlainActions};
 ghost use Rattle.expr_core.specs.Schema.{behaviours_shown, views_of};
 ghost use Rattle.live_tree.specs.Contents.{state};
@@ -27,6 +28,7 @@ use expr_syntax::Steps;
 use list_core::Parts;
 use live_tree::{Mark, Tree};
 use pointer_core::{Pointer, Refusal};
+use schema_views::values_are_plain;
 use snap_core::{NodeNo, Snap};
 use std::alloc::{AllocError, Global};
 use std::sync::ledger::Ledger;
@@ -66,17 +68,18 @@ impl Document {
             name,
             args: &args,
         };
-        constants_are_plain(schema);
+        all_is_plain(&self.tree, schema);
         act_on(&mut self.tree, alloc, schema, &callee, steps)
     }
 }
 
-// The constants in the views and in the actions of a schema are plain. It does nothing.
-fn constants_are_plain(schema: &Schema)
+// The value of a tree is plain, and so are the constants in the views and the actions of a schema. It does nothing.
+fn all_is_plain(tree: &Tree, schema: &Schema)
+    ensures value { IsPlain (bare (state tree.now).tree) }
     ensures views { HavePlainConstants (views_of schema.now) }
     ensures actions { HavePlainActions (behaviours_shown schema.now) }
 {
-    let _ = schema.view(schema.root(), "");
+    values_are_plain(tree, schema);
     let _ = schema.action(schema.root(), "");
 }
 
