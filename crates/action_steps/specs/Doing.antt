@@ -1,9 +1,15 @@
 -- How a call relates to the act that it does: a part of what a request runs.
-use Rattle.std.specs.Prelude.{◌≡◌, ℕ, ◌+◌, ◌≤◌, List, [], ◌∷◌, Result, Ok, Err}
+use Rattle.std.specs.Prelude.{◌≡◌, ℕ, ◌+◌, ◌≤◌, List, [], ◌∷◌, Bool, true, false, Result, Ok, Err}
+use Rattle.snap_core.specs.declared.number.NodeNo.{NodeNo}
+use Rattle.pointer_core.specs.Path.{Path}
+use Rattle.pointer_core.specs.declared.refusal.Rule.{Rule}
+use Rattle.pointer_core.specs.declared.refusal.Rule.TheVariants as rule
 use Rattle.pointer_core.specs.declared.refusal.Refusal.{Refusal}
+use Rattle.type_core.specs.Making.{Outcome}
 use Rattle.type_core.specs.Made.{refused_as}
-use Rattle.live_tree.specs.Laws.{CanBeTakenBack}
+use Rattle.live_tree.specs.Laws.{CanBeTakenBack, given_back}
 use Rattle.tree_core.specs.State.{State as Tree}
+use Rattle.eval_core.specs.Answer.{Answer, node}
 use Rattle.view_engine.specs.Did.{counted_within}
 use Rattle.view_engine.specs.declared.halt.RunError.{RunError}
 use Rattle.view_engine.specs.declared.halt.RunError.TheVariants.{Memory, Refused}
@@ -45,3 +51,29 @@ pub record Acts {T A : Type 0} (seen : T → A) (result : Result T RunError) (ac
   pub came : (tried : List Tried) (met : List Met) → Came seen result (act (state_at from tried met)) (spent met) from to
   pub back : CanBeTakenBack from.tree to.tree
   pub rises : from.counted ≤ to.counted
+
+-- a point with the tree of an earlier one; no number is given out twice
+abbrev pub back_at : Point → Point → Point
+back_at a b = point (given_back a.tree b.tree) b.counted b.steps
+
+-- What is told without a change of the tree.
+
+-- the result is what an outcome says, want of memory aside
+abbrev pub IsOutcome : {T A : Type 0} → (T → A) → Result T RunError → Outcome A → Type 0
+IsOutcome seen (Ok x) outcome = outcome ≡ Ok (seen x)
+IsOutcome seen (Err (Refused r)) outcome = outcome ≡ Err (refused_as r)
+IsOutcome seen (Err Memory) outcome = Unit {0}
+
+-- an error is a refusal by a rule at a path, or want of memory
+abbrev pub IsRefusal : RunError → Path → Rule → Type 0
+IsRefusal (Refused r) path by = r ≡ record { path = path; rule = by }
+IsRefusal Memory path by = Unit {0}
+
+abbrev pub is_node : Answer → Bool
+is_node (node n) = true
+is_node x = false
+
+-- the node that an answer is; any other answer is of the wrong kind, in a frame
+abbrev pub IsNodeIn : Result NodeNo RunError → Answer → Path → Type 0
+IsNodeIn (Ok n) x frame = x ≡ node n
+IsNodeIn (Err e) x frame = (is_node x ≡ false) × IsRefusal e frame rule.Kind

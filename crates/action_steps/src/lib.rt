@@ -8,7 +8,7 @@ mod layers;
 mod parts;
 mod writes;
 
-pub use acting::Acting;
+pub use acting::{Acting, node_in, refused};
 pub use beginning::{Begun, Callee, begin};
 pub use layers::{Guard, Layer, admits, layers_around};
 pub use parts::{CallParts, call_parts, condition, items, value};
