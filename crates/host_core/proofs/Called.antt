@@ -10,7 +10,7 @@ use Rattle.snap_core.proofs.PlainLevels.{AreOrderedMembers-of, IsPlain-value_at}
 use Rattle.snap_core.proofs.Views.{entry-fields}
 use Rattle.patch_core.specs.Reading.{text_in}
 use Rattle.host_core.specs.declared.calling.CallText as declared
-use Rattle.host_core.specs.Calling.{CallText, is_call_key, path_in, given_in, call_of, call_among, seen_text}
+use Rattle.host_core.specs.Calling.{CallText, is_call_key, path_in, given_in, call_of, call_among, call_text, seen_text}
 
 -- the keys of a record's fields
 pub keys_all : (P : List ℕ → Bool) (fs : List Field) → list_all (λ (f : Field). P f.key) fs ≡ list_all P (keys_of (fields_view fs))
@@ -32,7 +32,7 @@ given-plain ms plain (Some (integer z)) e = tt
 given-plain ms plain (Some (text t)) e = tt
 given-plain ms plain (Some (dict a fs)) e = tt
 
-abbrev IsGivenPlain : CallText → Type 0
+abbrev pub IsGivenPlain : CallText → Type 0
 IsGivenPlain call = ArePlain call.given
 
 call-plain : (path name : Option (List ℕ)) (given : Option Items) → IfSome given (λ vs. ArePlain vs) → IfSome (call_of path name given) IsGivenPlain
@@ -49,6 +49,14 @@ among-plain ms plain = by (list_all is_call_key (keys_of ms)) where
       call-plain (path_in (value_at (codes "path") ms)) (text_in (value_at (codes "name") ms)) (given_in (value_at (codes "args") ms))
       (given-plain ms plain (value_at (codes "args") ms) refl)
   by false = tt
+
+pub text-plain : (v : Value) → IsPlain v → IfSome (call_text v) IsGivenPlain
+text-plain (dict a ms) plain = among-plain ms plain
+text-plain null plain = tt
+text-plain (boolean b) plain = tt
+text-plain (integer z) plain = tt
+text-plain (text t) plain = tt
+text-plain (list a vs) plain = tt
 
 pub seen_plain : (ms : Fields) (call : Option declared.CallText) → ArePlainMembers ms → option_map seen_text call ≡ call_among ms
     → IfSome call (λ (c : declared.CallText). ArePlain (items_view c.given.now))
