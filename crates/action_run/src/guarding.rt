@@ -18,7 +18,7 @@ use std::sync::ledger::Ledger;
 use view_engine::RunError;
 
 /// Asks the conditions around an action, the outermost first, and tells whether one of its middlewares is atomic.
-fn pass<L: Ledger>(
+pub fn pass<L: Ledger>(
     within: &Acting<'_>,
     layers: &[Layer<'_>],
     tree: &Tree,

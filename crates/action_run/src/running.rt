@@ -7,7 +7,7 @@ ghost use Rattle.answer_ops.specs.View.{answer_of, answers_of};
 ghost use Rattle.live_tree.specs.Contents.{state};
 ghost use Rattle.plain_answers.specs.Plainness.{IsPlainAnswer, ArePlainAnswers, IsPlainEnv, HasPlainConstants, HavePlainConstants};
 ghost use Rattle.action_core.specs.Calling.{called, surrounded};
-ghost use Rattle.action_core.specs.Keeping.{IsGoodStatement, AreGood};
+ghost use Rattle.plain_answers.specs.EachExpression.{HoldsInStatement, HoldsInBlock};
 ghost use Rattle.action_core.specs.Running.{ran, ran_block, is_budget};
 ghost use Rattle.action_steps.specs.Doing.{Acts, point, IsRefusal};
 ghost use Rattle.action_steps.specs.Acting.{behaving_of, running_of, acting_of, callee_of, layer_of, env_of};
@@ -36,7 +36,7 @@ pub fn run_block<L: Ledger>(
     counted: &mut u32,
     steps: &mut Steps<L>,
 ) -> Result<(), RunError>
-    requires constants { AreGood HasPlainConstants (block_shown block.now) }
+    requires constants { HoldsInBlock HasPlainConstants (block_shown block.now) }
     requires bound { IsPlainEnv (env_of env.old) }
     ensures did { Acts (λ u. u) result (ran_block (acting_of acting.now) (block_shown block.now) (env_of env.old))
         (point (state tree.old) counted.old steps.old) (point (state tree.new) counted.new steps.new) }
@@ -64,7 +64,7 @@ fn run_statements<L: Ledger>(
     counted: &mut u32,
     steps: &mut Steps<L>,
 ) -> Result<(), RunError>
-    requires constants { AreGood HasPlainConstants (statements (map stmt_shown statements.now)) }
+    requires constants { HoldsInBlock HasPlainConstants (statements (map stmt_shown statements.now)) }
     requires bound { IsPlainEnv (env_of env.old) }
     ensures did { Acts (λ u. u) result (ran_block (acting_of acting.now) (statements (map stmt_shown statements.now)) (env_of env.old))
         (point (state tree.old) counted.old steps.old) (point (state tree.new) counted.new steps.new) }
@@ -87,7 +87,7 @@ fn run_statement<L: Ledger>(
     counted: &mut u32,
     steps: &mut Steps<L>,
 ) -> Result<(), RunError>
-    requires constants { IsGoodStatement HasPlainConstants (stmt_shown statement.now) }
+    requires constants { HoldsInStatement HasPlainConstants (stmt_shown statement.now) }
     requires bound { IsPlainEnv (env_of env.old) }
     ensures did { Acts (λ u. env_of env.new) result (ran (acting_of acting.now) (stmt_shown statement.now) (env_of env.old))
         (point (state tree.old) counted.old steps.old) (point (state tree.new) counted.new steps.new) }
@@ -166,8 +166,8 @@ fn choose<L: Ledger>(
     counted: &mut u32,
     steps: &mut Steps<L>,
 ) -> Result<(), RunError>
-    requires yes { AreGood HasPlainConstants (block_shown yes.now) }
-    requires no { AreGood HasPlainConstants (block_shown no.now) }
+    requires yes { HoldsInBlock HasPlainConstants (block_shown yes.now) }
+    requires no { HoldsInBlock HasPlainConstants (block_shown no.now) }
     requires bound { IsPlainEnv (env_of env.old) }
     ensures did { Acts (λ _. env_of env.old) result (ran (acting_of acting.now) (syntax.Statement.choice (shown c.now) (block_shown yes.now) (block_shown no.now)) (env_of env.old))
         (point (state tree.old) counted.old steps.old) (point (state tree.new) counted.new steps.new) }
@@ -194,7 +194,7 @@ fn each<L: Ledger>(
     steps: &mut Steps<L>,
 ) -> Result<(), RunError>
     requires over { HasPlainConstants (shown e.now) }
-    requires body { AreGood HasPlainConstants (block_shown body.now) }
+    requires body { HoldsInBlock HasPlainConstants (block_shown body.now) }
     requires bound { IsPlainEnv (env_of env.old) }
     ensures did { Acts (λ _. env_of env.old) result (ran (acting_of acting.now) (syntax.each (shown e.now) name.now (block_shown body.now)) (env_of env.old))
         (point (state tree.old) counted.old steps.old) (point (state tree.new) counted.new steps.new) }
@@ -209,6 +209,7 @@ fn each<L: Ledger>(
 }
 
 /// One run of a block, with a name bound to a value.
+#[derive(Drop)]
 struct Turn<'a> {
     name: &'a Name,
     value: &'a Value,
@@ -225,7 +226,7 @@ fn run_turn<L: Ledger>(
     counted: &mut u32,
     steps: &mut Steps<L>,
 ) -> Result<(), RunError>
-    requires constants { AreGood HasPlainConstants (block_shown turn.now.body.now) }
+    requires constants { HoldsInBlock HasPlainConstants (block_shown turn.now.body.now) }
     requires value { IsPlainAnswer (answer_of turn.now.value.now) }
     requires bound { IsPlainEnv (env_of env.old) }
     ensures did { Acts (λ u. u) result (ran_block (acting_of acting.now) (block_shown turn.now.body.now) ((turn.now.name.now, answer_of turn.now.value.now) ∷ env_of env.old))
@@ -278,8 +279,8 @@ fn attempt<L: Ledger>(
     counted: &mut u32,
     steps: &mut Steps<L>,
 ) -> Result<(), RunError>
-    requires first { AreGood HasPlainConstants (block_shown first.now) }
-    requires second { AreGood HasPlainConstants (block_shown second.now) }
+    requires first { HoldsInBlock HasPlainConstants (block_shown first.now) }
+    requires second { HoldsInBlock HasPlainConstants (block_shown second.now) }
     requires bound { IsPlainEnv (env_of env.old) }
     ensures did { Acts (λ _. env_of env.old) result (ran (acting_of acting.now) (syntax.attempt (block_shown first.now) (block_shown second.now)) (env_of env.old))
         (point (state tree.old) counted.old steps.old) (point (state tree.new) counted.new steps.new) }
@@ -352,7 +353,7 @@ fn surround<L: Ledger>(
     counted: &mut u32,
     steps: &mut Steps<L>,
 ) -> Result<(), RunError>
-    requires constants { AreGood HasPlainConstants (block_shown body.now) }
+    requires constants { HoldsInBlock HasPlainConstants (block_shown body.now) }
     requires bound { IsPlainEnv (env_of env.old) }
     ensures { Acts (λ u. u) result (surrounded (behaving_of within.now.schema.now) within.now.frame.now (map layer_of layers.now) (ran_block (acting_of within.now) (block_shown body.now) (env_of env.old)))
         (point (state tree.old) counted.old steps.old) (point (state tree.new) counted.new steps.new) }

@@ -66,6 +66,7 @@ pub fn items<L: Ledger>(
 }
 
 /// The node and the arguments of a call.
+#[derive(Drop)]
 pub struct CallParts {
     pub on: Value,
     pub args: Values,
