@@ -37,15 +37,15 @@ pub fn call_in<'a>(visit: &Visit<'_>, body: &'a Snap) -> Result<Read<Call<'a>>, 
     ensures plain { IfOk result (λ read. IfOk read (λ call. ArePlain (items_view call.given.now))) }
 {
     match call_text(body) {
-        Some(spelled) => call_of(visit, spelled),
+        Some(spelled) => call_of(visit, &spelled),
         None => Ok(Err(refuse(visit, &Rule::Shape)?)),
     }
 }
 
 // The call of a text.
-fn call_of<'a>(visit: &Visit<'_>, spelled: CallText<'a>) -> Result<Read<Call<'a>>, AllocError>
-    ensures read { IfOk result (IsRead (closes visit.now) specs.seen_call (specs.IsCallOf (specs.seen_text spelled))) }
-    ensures given { IfOk result (λ read. IfOk read (λ call. call.given.now ≡ spelled.given.now)) }
+fn call_of<'a>(visit: &Visit<'_>, spelled: &CallText<'a>) -> Result<Read<Call<'a>>, AllocError>
+    ensures read { IfOk result (IsRead (closes visit.now) specs.seen_call (specs.IsCallOf (specs.seen_text spelled.now))) }
+    ensures given { IfOk result (λ read. IfOk read (λ call. call.given.now ≡ spelled.now.given.now)) }
 {
     match Pointer::parse(visit.alloc, spelled.path) {
         Ok(path) => Ok(Ok(Call {
