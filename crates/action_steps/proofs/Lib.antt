@@ -7,3 +7,4 @@ pub mod Reaching
 pub mod Names
 pub mod Starting
 pub mod Standing
+pub mod Guarding
