@@ -1,4 +1,3 @@
-mod Plain
 mod Arguments
 mod Writes
 mod Leading

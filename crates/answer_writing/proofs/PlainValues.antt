@@ -1,12 +1,13 @@
 -- Answers that are taken are plain: what is written, and what is made of it.
 use Rattle.std.proofs.Common.{◌≡◌, ℕ, List, [], ◌∷◌, Bool, true, false, Option, Some, None, Ok, Err, refl, drop}
-use Rattle.std.specs.Prelude.{IfOk, IfSome, decimal, ◌+◌, if◌then◌else◌}
+use Rattle.std.specs.Prelude.{IfOk, IfSome, decimal, ◌+◌, unwrap_or, if◌then◌else◌}
 use Rattle.std.specs.Option.{option_map, option_and_then}
 use Rattle.snap_core.specs.Value.{Value, null, boolean, integer, text, list, dict, Items, part, IsPlain, ArePlain}
 use Rattle.snap_core.specs.declared.number.ModelNo.{ModelNo}
 use Rattle.snap_core.specs.declared.number.NodeNo.{NodeNo}
+use Rattle.pointer_core.specs.declared.refusal.Rule.{Rule}
 use Rattle.type_table.specs.Identifiers.{ident_of}
-use Rattle.type_core.specs.Making.{Outcome, Maker, mistyped, under, part_made, items_made, list_of, maker_of}
+use Rattle.type_core.specs.Making.{Refused, Outcome, Maker, mistyped, refused, under, part_made, items_made, list_of, maker_of, limited, is_within}
 use Rattle.type_core.specs.Sound.{IsSound}
 use Rattle.type_core.proofs.Again.{Makes-plain, IfSome-value_at}
 use Rattle.type_core.proofs.Laws.{made_by-sound}
@@ -14,14 +15,16 @@ use Rattle.edit_core.specs.declared.kind.Kind.TheVariants.{Model}
 use Rattle.edit_core.specs.Labelled.{Labelled, bare}
 use Rattle.edit_core.specs.Template.{items_under}
 use Rattle.edit_core.specs.Typing.{field_at, is_kind}
+use Rattle.edit_core.specs.Edit.{Turn}
+use Rattle.edit_core.specs.Ways.{way_to, part_at}
 use Rattle.tree_core.specs.Reading.{kind_at, identifier_in}
 use Rattle.tree_core.specs.TypesTyping.{typing_of}
+use Rattle.tree_core.proofs.PartFacts.{plain-part}
+use Rattle.tree_core.proofs.PlaceKeeping.{way-stands}
 use Rattle.eval_core.specs.Answer.{Answer, Answers, plain, node, several, no_answers, answer}
 use Rattle.eval_core.specs.Reading.{ident_value}
 use Rattle.plain_answers.specs.Plainness.{IsPlainAnswer, ArePlainAnswers}
-use Rattle.plain_views.proofs.PlainTrees.{sight-plain}
-use Rattle.view_engine.specs.TreeSight.{sight_of}
-use Rattle.action_core.specs.Taking.{Taking, Aim, plain_in, plains_in, model_at, items_at, item_aim, node_value, node_made, items_taken, list_taken, answer_made, answers_made}
+use Rattle.answer_writing.specs.Taking.{Taking, Aim, plain_in, plains_in, model_at, items_at, item_aim, node_value, node_made, is_large, unless_large, plain_made, items_taken, list_taken, answer_made, answers_made}
 
 -- The plain value that an answer is.
 
@@ -90,16 +93,31 @@ identifier-plain (Some name) v h = ident-plain (field_at name v) (field-plain na
 identifier-plain None v h = tt
 
 module _ (by : Taking) (sound : IsSound by.types) (whole : IsPlain (bare by.root)) where
-  maker-plain : (v : Value) (t : ℕ) → IsPlain v → IfOk (maker_of by.types.table by.types.defaults v t) IsPlain
+  within-plain : (v w : Value) (b : Bool) → IsPlain v → IsPlain w → IfOk (unless_large v (if b then Ok w else refused Rule.Large)) IsPlain
+  within-plain v w true h g = g
+  within-plain v w false h g = h
+
+  refused-plain : (v : Value) (e : Refused) (b : Bool) → IsPlain v → IfOk (if b then Ok v else Err e) IsPlain
+  refused-plain v e true h = h
+  refused-plain v e false h = tt
+
+  maker-plain : (v : Value) (t : ℕ) → IsPlain v → IfOk (plain_made by v t) IsPlain
   maker-plain v t h = by_outcome (maker_of by.types.table by.types.defaults v t) refl
     where
-      by_outcome : (o : Outcome Value) → maker_of by.types.table by.types.defaults v t ≡ o → IfOk o IsPlain
-      by_outcome (Ok w) e = Makes-plain by.types sound t (Some v) w (made_by-sound by.types.table by.types.defaults sound.defaults.made t (Some v) w e) h
-      by_outcome (Err r) e = tt
+      by_outcome : (o : Outcome Value) → maker_of by.types.table by.types.defaults v t ≡ o → IfOk (unless_large v (limited o)) IsPlain
+      by_outcome (Ok w) e = within-plain v w (is_within w) h (Makes-plain by.types sound t (Some v) w (made_by-sound by.types.table by.types.defaults sound.defaults.made t (Some v) w e) h)
+      by_outcome (Err r) e = refused-plain v r (is_large r.rule) h
 
   node-plain : (n : NodeNo) → IsPlain (node_value by n)
-  unfolding sight_of
-  node-plain n = (sight-plain (record { table = by.types.table; tree = by.root }) whole).wholes n
+  node-plain n = by_way (way_to n.0 by.root) refl
+    where
+      by_part : (way : List Turn) → way_to n.0 by.root ≡ Some way → (o : Option Labelled) → part_at way by.root ≡ o → IsPlain (unwrap_or (option_map bare o) null)
+      by_part way e None f = tt
+      by_part way e (Some held) f = plain-part way by.root held (way-stands n.0 by.root way held e f) whole
+
+      by_way : (o : Option (List Turn)) → way_to n.0 by.root ≡ o → IsPlain (unwrap_or (option_map bare (option_and_then (λ way. part_at way by.root) o)) null)
+      by_way None e = tt
+      by_way (Some way) e = by_part way e (part_at way by.root) refl
 
   identified-plain : (n : NodeNo) (m : ModelNo) (b : Bool)
       → IfOk (if b then Ok (ident_value (identifier_in ((typing_of by.types.table).identifier_of m) (node_value by n))) else mistyped {A = Value}) IsPlain

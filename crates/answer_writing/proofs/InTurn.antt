@@ -27,11 +27,11 @@ use Rattle.tree_core.specs.Outcome.{◌>>=◌, provided, or_refuse, seen_from}
 use Rattle.tree_core.specs.Changed.{Changed, placed}
 use Rattle.tree_core.specs.Writing.{Tree, Target, Writing, Entry, Item, typing_in, others_held, other_identifier, other_under, unless_fixed, node_making, whole_made, whole_written, held_at, entry_path, entry_type, is_renaming, property_in, property_set, key_put, key_written, item_type, item_making, item_put, item_written, is_model, is_map, is_array, suited, kind_written, node_written, node_no, name_for, writing_at, written_at, limited_tree, unless_doubled, judged, written}
 use Rattle.eval_core.specs.Answer.{Answer}
-use Rattle.action_core.specs.Giving.{Giving, sets, inserts, removes, with_value, Site, is_of_value, after_place, value_taken}
-use Rattle.action_core.specs.Placing.{whole_judged, item_judged, part_judged, node_judged, site_judged, IsGiven, NodesAreGivenInTurn}
+use Rattle.answer_writing.specs.Giving.{Giving, sets, inserts, removes, with_value, Site, is_of_value, after_place, value_taken}
+use Rattle.answer_writing.specs.Placing.{whole_judged, item_judged, part_judged, node_judged, site_judged, IsGiven, NodesAreGivenInTurn}
 
 -- each refusal is one of the value
-abbrev IsLate : {A : Type 0} → Outcome A → Type 0
+abbrev pub IsLate : {A : Type 0} → Outcome A → Type 0
 IsLate (Ok x) = Unit {0}
 IsLate (Err e) = is_of_value e.rule ≡ true
 
@@ -195,7 +195,7 @@ node-splits w giving is node at (Some label) = part-splits w giving is node labe
 
 -- The tree that is written.
 
-judged-late : (types : Catalog) (c : Changed) → IsLate (judged types c)
+pub judged-late : (types : Catalog) (c : Changed) → IsLate (judged types c)
 judged-late types c = then_late (limited_tree c) _ (by_weight (is_within (bare c.value))) (λ within. by_double within (doubled_of (identifiers_of types (bare within.value))))
   where
     by_weight : (b : Bool) → IsLate (provided {A = Changed} b [] rule.Large (Ok c))
@@ -206,7 +206,7 @@ judged-late types c = then_late (limited_tree c) _ (by_weight (is_within (bare c
     by_double within (Some path) = refl
     by_double within None = tt
 
-after-late : (o : Outcome Changed) (rest : Outcome Changed) → IsLate o → after_place o rest ≡ rest
+pub after-late : (o : Outcome Changed) (rest : Outcome Changed) → IsLate o → after_place o rest ≡ rest
 after-late (Ok c) rest h = refl
 after-late (Err e) rest h = ap (λ (b : Bool). if b then rest else Err e) h
 

@@ -16,7 +16,7 @@ use Rattle.tree_core.specs.Outcome.{◌>>=◌, refuse, provided, or_refuse}
 use Rattle.tree_core.specs.Changed.{Changed}
 use Rattle.tree_core.specs.Writing.{Tree, Target, Writing, Entry, Item, held_at, entry_path, is_renaming, is_model, is_map, is_array, node_no, name_for, writing_at, written}
 use Rattle.eval_core.specs.Answer.{Answer}
-use Rattle.action_core.specs.Giving.{Giving, sets, inserts, removes, with_value, Site, value_taken, nodes_given}
+use Rattle.answer_writing.specs.Giving.{Giving, sets, inserts, removes, with_value, Site, value_taken, nodes_given}
 
 -- a node as a whole is set, and neither put in nor taken out
 abbrev pub whole_judged : Path → Giving → Outcome (Unit {0})

@@ -1,6 +1,6 @@
 -- What is taken of an answer that is written: at a reference a node stands for its identifier, and the node that stands
 -- at its own place is taken as it is. A list that holds nodes is taken item by item where the type is an array.
-use Rattle.std.specs.Prelude.{ℕ, List, [], ◌∷◌, drop, slice_get, Bool, false, ◌||◌, nat_eq, is_some, is_none, unwrap_or, option_map, option_and_then, Option, Some, None, Ok, if◌then◌else◌}
+use Rattle.std.specs.Prelude.{ℕ, List, [], ◌∷◌, drop, slice_get, Bool, true, false, ◌||◌, nat_eq, is_some, is_none, unwrap_or, option_map, option_and_then, Option, Some, None, Ok, Err, if◌then◌else◌}
 use Rattle.snap_core.specs.Value.{Value, null, list, Items, no_parts, part}
 use Rattle.snap_core.specs.declared.number.ModelNo.{ModelNo}
 use Rattle.snap_core.specs.declared.number.NodeNo.{NodeNo}
@@ -8,7 +8,7 @@ use Rattle.pointer_core.specs.declared.refusal.Rule.{Rule}
 use Rattle.type_table.specs.declared.shape.Shape.{Shape}
 use Rattle.type_table.specs.declared.shape.Shape.TheVariants as shape
 use Rattle.type_table.specs.Table.{Catalog}
-use Rattle.type_core.specs.Making.{Outcome, Maker, mistyped, maker_of, items_made, list_of}
+use Rattle.type_core.specs.Making.{Outcome, Maker, mistyped, making, items_made, list_of}
 use Rattle.type_core.specs.Judging.{judged_by}
 use Rattle.edit_core.specs.declared.kind.Kind.TheVariants.{Model}
 use Rattle.edit_core.specs.Labelled.{Label, Labelled, bare}
@@ -90,7 +90,7 @@ abbrev mutual
   fault_among by no_answers t held = None
   fault_among by (answer x xs) t held = or_later (fault_in by x (item_aim x t held)) (fault_among by xs t (drop 1 held))
 
--- What the type makes of an answer whose nodes are taken, its limits aside.
+-- What the type makes of an answer whose nodes are taken, the limits of the whole aside.
 
 -- the snapshot of a node
 abbrev pub node_value : Taking → NodeNo → Value
@@ -108,18 +108,31 @@ abbrev pub node_made : Taking → NodeNo → Option ModelNo → Outcome Value
 node_made by n (Some m) = identifier_made by n m
 node_made by n None = Ok (node_value by n)
 
+-- What a type makes of a plain value in a list. Limits are judged of the whole, which is made once more where it is
+-- written: a part that is too large by itself is taken as it is given.
+abbrev pub is_large : Rule → Bool
+is_large Rule.Large = true
+is_large rule = false
+
+abbrev pub unless_large : Value → Outcome Value → Outcome Value
+unless_large v (Ok made) = Ok made
+unless_large v (Err e) = if is_large e.rule then Ok v else Err e
+
+abbrev pub plain_made : Taking → Value → ℕ → Outcome Value
+plain_made by v t = unless_large v (making by.types t (Some v))
+
 abbrev pub items_taken : List Maker → Option ℕ → Outcome Value
 items_taken makers (Some t) = list_of (items_made 0 t makers)
 items_taken makers None = mistyped
 
 -- several answers are a plain list where no node stands in them, and are otherwise taken item by item
 abbrev pub list_taken : Taking → Aim → List Maker → Option Items → Outcome Value
-list_taken by aim makers (Some ps) = maker_of by.types.table by.types.defaults (list tt ps) aim.type
+list_taken by aim makers (Some ps) = plain_made by (list tt ps) aim.type
 list_taken by aim makers None = items_taken makers (items_at by aim)
 
 abbrev mutual
   pub answer_made : Taking → Answer → Aim → Outcome Value
-  answer_made by (plain v) aim = maker_of by.types.table by.types.defaults v aim.type
+  answer_made by (plain v) aim = plain_made by v aim.type
   answer_made by (node n) aim = node_made by n (model_at by aim)
   answer_made by (several xs) aim = list_taken by aim (answers_made by xs (items_under aim.held)) (plains_in xs)
 

@@ -22,7 +22,7 @@ use Rattle.tree_core.specs.Changed.{Changed}
 use Rattle.tree_core.specs.Write.{Write, set, insert, remove}
 use Rattle.tree_core.specs.Writing.{Tree, Target, written, node_no, place_tokens, path_of}
 use Rattle.eval_core.specs.Answer.{Answer}
-use Rattle.action_core.specs.Taking.{Taking, Aim, plain_in, fault_in, answer_made}
+use Rattle.answer_writing.specs.Taking.{Taking, Aim, plain_in, fault_in, answer_made}
 
 -- what is given to a place: an answer that is set or put in there, or nothing, where what stands there is taken out
 pub data Giving : Type 0 where
