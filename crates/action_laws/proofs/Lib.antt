@@ -1,6 +1,6 @@
-mod Arguments
-mod Writes
-mod Leading
-mod Schemas
+pub mod Arguments
+pub mod Writes
+pub mod Leading
+pub mod Schemas
 mod Settled
 mod Nothing

@@ -3,7 +3,7 @@ use Rattle.edit_core.specs.Labelled.{bare}
 use Rattle.live_tree.specs.Contents.{state}
 use Rattle.doc_core.specs.Staging.{IsAsBefore}
 use Rattle.host_core.proofs.Kept.{before-document}
-use Rattle.host_core.proofs.document.keep.Goals as goal
+use Rattle.host_core.proofs.keeping.keep.Goals as goal
 
 pub returns-in-Err-clause-document : goal.returns-in-Err-clause-document
 returns-in-Err-clause-document c s staged =
