@@ -1,10 +1,9 @@
 -- Where the keys of a file are in order, what is read of its views, actions and middleware has plain constants.
-use Rattle.std.proofs.Common.{◌≡◌, ℕ, ◌+◌, List, [], ◌∷◌, Bool, Option, codes, All, if◌then◌else◌, refl}
+use Rattle.std.proofs.Common.{◌≡◌, ℕ, ◌+◌, List, Bool, Option, codes, All, if◌then◌else◌, refl}
 use Rattle.std.specs.Str.{bytes_eq}
 use Rattle.std.proofs.lemmas.List.Elements.{All-nil, All-cons}
 use Rattle.snap_core.specs.Value.{Value, null, boolean, integer, text, list, dict, no_parts, part, no_members, member, IsOrdered, AreOrdered, AreOrderedMembers, Items, Fields}
 use Rattle.pointer_core.specs.declared.schema_rule.SchemaRule.TheVariants.{Shape}
-use Rattle.expr_syntax.specs.Syntax.{Expression, Statements}
 use Rattle.plain_answers.specs.Plainness.{HasPlainConstants}
 use Rattle.plain_answers.specs.EachExpression.{HoldsInBlock}
 use Rattle.model_syntax.specs.Shown.{ShownView, ShownMiddleware, atomic}
