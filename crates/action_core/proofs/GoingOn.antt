@@ -10,8 +10,8 @@ use Rattle.eval_core.specs.Pairing.{Anything}
 use Rattle.eval_core.specs.Scope.{Env}
 use Rattle.action_core.specs.Act.{State, root_of}
 use Rattle.action_core.specs.Behaving.{Behaving, sight_in, most_statements}
-use Rattle.plain_answers.specs.EachExpression.{HoldsInEach, HoldsInStatement, HoldsInBlock}
 use Rattle.action_core.specs.Keeping.{Keeping, EachFine, AreFine, IsFineEnv}
+use Rattle.plain_answers.specs.EachExpression.{HoldsInEach, HoldsInStatement, HoldsInBlock}
 use Rattle.action_core.specs.Laws.{GoesOn, RequestsGoOn}
 use Rattle.action_core.proofs.Kept.{called_kept}
 

@@ -23,8 +23,8 @@ use Rattle.action_core.specs.Act.{State, Act, root_of}
 use Rattle.action_core.specs.Behaving.{Running, Callee, sight_in}
 use Rattle.action_core.specs.Beginning.{Begun, frame_of, action_under, arguments_bound, action_begun, begun_of_kind, begun_by}
 use Rattle.action_core.specs.Calling.{around, surrounded, running_on, called}
-use Rattle.plain_answers.specs.EachExpression.{HoldsInEach, HoldsInStatement, HoldsInBlock}
 use Rattle.action_core.specs.Keeping.{EachFine, AreFine, IsFineEnv, Keeping, Keeps, scope_of}
+use Rattle.plain_answers.specs.EachExpression.{HoldsInEach, HoldsInStatement, HoldsInBlock}
 use Rattle.action_core.specs.Layers.{Layer, layers_of}
 use Rattle.action_core.specs.Running.{two, three, items_read, over_each, is_budget, keeping, ran, ran_block}
 use Rattle.action_core.specs.Statements.{property_set, entry_put, item_inserted, item_replaced, part_dropped, snapshot_applied}

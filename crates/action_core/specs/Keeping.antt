@@ -3,7 +3,6 @@ use Rattle.std.specs.Prelude.{◌≡◌, ℕ, suc, nat_lt, true, List, [], ◌�
 use Rattle.snap_core.specs.declared.number.ModelNo.{ModelNo}
 use Rattle.snap_core.specs.declared.number.NodeNo.{NodeNo}
 use Rattle.expr_syntax.specs.Syntax.{Expression}
-use Rattle.plain_answers.specs.EachExpression.{HoldsInBlock}
 use Rattle.model_syntax.specs.Shown.{ShownAction}
 use Rattle.tree_core.specs.Changed.{Changed}
 use Rattle.tree_core.specs.Recorded.{tree_in}
@@ -13,10 +12,11 @@ use Rattle.eval_core.specs.Asking.{frame_scope, bound_at}
 use Rattle.eval_core.specs.Evaluating.{evaluated}
 use Rattle.eval_core.specs.Run.{Run}
 use Rattle.eval_core.specs.Scope.{Scope, Env}
+use Rattle.plain_answers.specs.EachExpression.{HoldsInBlock}
 use Rattle.action_core.specs.Act.{State, Ran, Act, root_of, with_change, with_met, taken_back}
 use Rattle.action_core.specs.Behaving.{Behaving, Callee, sight_in, most_statements}
 use Rattle.action_core.specs.Beginning.{arguments_bound}
-use Rattle.action_core.specs.Giving.{Giving, given, sets, inserts, removes}
+use Rattle.answer_writing.specs.Giving.{Giving, given, sets, inserts, removes}
 use Rattle.action_core.specs.Running.{items_read}
 
 -- A fact of each answer.

@@ -3,6 +3,7 @@ use Rattle.std.specs.Prelude.{◌≡◌, ℕ, List, IfSome, IsErr}
 use Rattle.snap_core.specs.declared.number.ModelNo.{ModelNo}
 use Rattle.type_table.specs.Table.{Catalog}
 use Rattle.type_core.specs.Sound.{IsSound}
+use Rattle.model_syntax.specs.Shown.{ShownAction}
 use Rattle.tree_core.specs.Recorded.{after_settling}
 use Rattle.tree_core.specs.State.{State as Tree}
 use Rattle.live_tree.specs.Laws.{CanBeTakenBack, given_back}
@@ -10,11 +11,11 @@ use Rattle.tree_laws.specs.Calls.{LeadsOn}
 use Rattle.tree_laws.specs.Laws.{IsDone}
 use Rattle.tree_laws.specs.Tied.{IsSettled}
 use Rattle.tree_laws.specs.Trees.{IsSoundTree}
-use Rattle.plain_answers.specs.Plainness.{HasPlainBodies, ArePlainAnswers}
-use Rattle.expr_core.specs.Plain.{HasPlainAction}
+use Rattle.plain_answers.specs.Plainness.{HasPlainConstants, HasPlainBodies, ArePlainAnswers}
 use Rattle.action_core.specs.Act.{State, root_of}
 use Rattle.action_core.specs.Behaving.{Behaving, Running, Callee}
 use Rattle.action_core.specs.Calling.{called}
+use Rattle.plain_answers.specs.EachExpression.{HoldsInBlock}
 use Rattle.action_core.specs.Laws.{HasAtomic}
 use Rattle.action_core.specs.Layers.{layers_of}
 
@@ -22,7 +23,7 @@ use Rattle.action_core.specs.Layers.{layers_of}
 pub record IsPlainBehaving (behaving : Behaving) : Type 0 where
   pub sound : IsSound behaving.types
   pub views : HasPlainBodies behaving.viewing
-  pub actions : (m : ModelNo) (name : List ℕ) → IfSome (behaving.action_of m name) HasPlainAction
+  pub actions : (m : ModelNo) (name : List ℕ) → IfSome (behaving.action_of m name) (λ (a : ShownAction). HoldsInBlock HasPlainConstants a.body)
 
 -- What was kept leads on and can be taken back, no number being given out twice, and the tree is sound.
 pub record Leads (types : Catalog) (before after : Tree) : Type 0 where
