@@ -17,7 +17,7 @@ ghost use Rattle.live_tree.specs.Laws.{CanBeTakenBack, given_back};
 use crate::tree::Tree;
 use patch_core::Patches;
 use std::alloc::{AllocError, Global};
-use tree_core::{Changed, Tree as Whole, TreeError};
+use tree_core::{Changed, TreeError};
 use tree_lists::{restore, write_list};
 use type_core::Types;
 
@@ -55,11 +55,7 @@ impl Tree {
         ensures well { IfOk result (λ c. IsWell c.next (labelled c.value)) }
         ensures later { IfOk result (λ c. self.now.next ≤ c.next) }
     {
-        let whole = Whole {
-            root: &self.root,
-            next: self.next,
-        };
-        write_list(alloc, types, patches.as_slice(), &whole)
+        write_list(alloc, types, patches.as_slice(), &self.whole())
     }
 
     /// Puts patches back, each as it stands: nothing is refused, what comes in has new nodes, and a patch that names no
@@ -97,10 +93,6 @@ impl Tree {
         ensures well { IfOk result (λ c. IsWell c.next (labelled c.value)) }
         ensures later { IfOk result (λ c. self.now.next ≤ c.next) }
     {
-        let whole = Whole {
-            root: &self.root,
-            next: self.next,
-        };
-        restore(alloc, types, patches.as_slice(), &whole)
+        restore(alloc, types, patches.as_slice(), &self.whole())
     }
 }

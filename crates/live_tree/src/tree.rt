@@ -6,6 +6,10 @@ ghost use Rattle.std.specs.Option.{option_map};
 ghost use Rattle.snap_core.specs.Value.{IsPlain};
 ghost use Rattle.edit_core.specs.Labelled.{bare};
 ghost use Rattle.edit_core.specs.Typing.{label_of};
+ghost use Rattle.edit_core.specs.Numbers.{AreNumbered};
+ghost use Rattle.node_core.specs.View.{labelled, plain};
+ghost use Rattle.tree_core.specs.Recorded.{tree_in};
+ghost use Rattle.tree_core.specs.Written.{tree};
 ghost use Rattle.live_tree.specs.Contents.{state};
 
 use crate::call::Call;
@@ -15,6 +19,7 @@ use patch_core::Patches;
 use snap_core::NodeNo;
 use std::alloc::AllocError;
 use std::marker::Model;
+use tree_core::Tree as Whole;
 
 /// A point in a tree's log to which it can be rolled back.
 #[derive(Clone, Copy, Debug, PartialEq, Eq)]
@@ -109,6 +114,18 @@ impl Tree {
         match &self.root {
             Labelled::Leaf(_) => None,
             Labelled::Array(label, _) | Labelled::Record(label, _) => Some(label.number),
+        }
+    }
+
+    /// The labelled snapshot and the next number, as definitions of writing see them.
+    pub fn whole(&self) -> Whole<'_>
+        ensures tree { tree result ≡ tree_in (state self.now) }
+        ensures numbered { AreNumbered result.next (labelled result.root.now) }
+        ensures plain { IsPlain (plain result.root.now) }
+    {
+        Whole {
+            root: &self.root,
+            next: self.next,
         }
     }
 

@@ -1,12 +1,12 @@
 //! Writing a tree.
-ghost use Rattle.std.specs.Prelude.{◌≡◌, ◌≤◌, OnOk, OnErr, IfOk, IfErr, None};
+ghost use Rattle.std.specs.Prelude.{◌≡◌, ◌≤◌, OnOk, OnErr, IfOk, IfErr};
 ghost use Rattle.snap_core.specs.Value.{IsPlain};
 ghost use Rattle.snap_core.specs.View.{view};
 ghost use Rattle.edit_core.specs.Logged.{before_log};
 ghost use Rattle.node_core.specs.View.{labelled, edits_of};
 ghost use Rattle.tree_core.specs.Answers.{Answers};
 ghost use Rattle.tree_core.specs.Writing.{written};
-ghost use Rattle.tree_core.specs.Written.{changed};
+ghost use Rattle.tree_core.specs.Written.{changed, target};
 ghost use Rattle.tree_core.specs.Recorded.{state_of, new_tree, after_write, tree_in, Leaves, IsSoundValue, IsTreeOf};
 ghost use Rattle.tree_core.specs.State.{rolled_back, mark_of};
 ghost use Rattle.tree_core.specs.Write.{write_of, WritesPlain};
@@ -17,11 +17,9 @@ ghost use Rattle.live_tree.specs.Laws.{CanBeTakenBack, given_back};
 use crate::tree::Tree;
 use list_core::RoomyParts;
 use patch_core::Patches;
-use snap_core::{NodeNo, Snap};
+use snap_core::Snap;
 use std::alloc::Global;
-use tree_core::{
-    Change, Changed, New, Place, Target, Tree as Whole, TreeError, number_new, write_tree,
-};
+use tree_core::{Change, Changed, New, Target, TreeError, number_new, write_tree};
 use type_core::Types;
 
 impl Tree {
@@ -48,47 +46,36 @@ impl Tree {
         &mut self,
         alloc: Global,
         types: &Types,
-        running: &[NodeNo],
-        place: &Place,
+        to: &Target<'_>,
         change: Change,
     ) -> Result<(), TreeError>
         requires plain { WritesPlain (write_of change) }
-        ensures outcome { Leaves result (after_write types.now (record { running = running.now; place = place.now; named = None }) (write_of change) (state self.old)) (state self.new) }
+        ensures outcome { Leaves result (after_write types.now (target to.now) (write_of change) (state self.old)) (state self.new) }
         ensures unchanged { OnErr result (state self.new ≡ state self.old) }
         ensures undone { OnOk result (rolled_back (mark_of (state self.old)) (state self.new) ≡ given_back (state self.old) (state self.new)) }
         ensures later { (state self.old).next ≤ (state self.new).next }
         ensures kept { CanBeTakenBack (state self.old) (state self.new) }
     {
-        let changed = self.change_by(alloc, types, running, place, &change)?;
+        let changed = self.change_by(alloc, types, to, &change)?;
         self.record(alloc, changed)?;
         Ok(())
     }
 
     /// What a write makes of the tree.
     #[tactic(auto, using(crate::proofs::Changes::undone, crate::proofs::Changes::well, crate::proofs::Changes::later))]
-    fn change_by<'a>(
+    fn change_by(
         &self,
         alloc: Global,
         types: &Types,
-        running: &'a [NodeNo],
-        place: &'a Place,
+        to: &Target<'_>,
         change: &Change,
     ) -> Result<Changed, TreeError>
         requires plain { WritesPlain (write_of change.now) }
-        ensures outcome { Answers changed result (written types.now (record { running = running.now; place = place.now; named = None }) (write_of change.now) (tree_in (state self.now))) }
+        ensures outcome { Answers changed result (written types.now (target to.now) (write_of change.now) (tree_in (state self.now))) }
         ensures undone { IfOk result (λ c. before_log (edits_of c.edits) (labelled c.value) ≡ labelled self.now.root) }
         ensures well { IfOk result (λ c. IsWell c.next (labelled c.value)) }
         ensures later { IfOk result (λ c. self.now.next ≤ c.next) }
     {
-        let to = Target {
-            running,
-            place,
-            named: None,
-        };
-        let whole = Whole {
-            root: &self.root,
-            next: self.next,
-        };
-        write_tree(alloc, types, &to, change, &whole)
+        write_tree(alloc, types, to, change, &self.whole())
     }
 }

@@ -45,8 +45,8 @@ pub fn answer_view<L: Ledger>(
     Ok(show_answer(alloc, tree, answer)?)
 }
 
-// The value of a tree is plain, and so are the constants in the views of a schema. It does nothing.
-fn values_are_plain(tree: &Tree, schema: &Schema)
+/// The value of a tree is plain, and so are the constants in the views of a schema. It does nothing.
+pub fn values_are_plain(tree: &Tree, schema: &Schema)
     ensures value { IsPlain (bare (state tree.now).tree) }
     ensures constants { HavePlainConstants (views_of schema.now) }
 {

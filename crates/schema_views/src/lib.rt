@@ -13,5 +13,6 @@ mod answer;
 mod locate;
 mod viewed;
 
-pub use answer::answer_view;
+pub use answer::{answer_view, values_are_plain};
 pub use locate::{ViewOf, view_at};
+pub use viewed::Viewed;

@@ -8,6 +8,7 @@ use snap_core::{ModelNo, Name};
 use type_core::Types;
 use view_engine::{Bodies, Named};
 
+/// A schema, as views are evaluated by it.
 #[derive(Drop)]
 pub struct Viewed<'a> {
     pub schema: &'a Schema,

@@ -16,6 +16,7 @@ use Rattle.view_engine.specs.declared.halt.RunError.{RunError}
 use Rattle.view_engine.specs.declared.halt.Halt.TheVariants as halts
 use Rattle.view_engine.specs.declared.names.Env.{Env}
 use Rattle.view_engine.specs.declared.names.Names
+use Rattle.view_engine.specs.Asks.{items_evaluated}
 use Rattle.view_engine.specs.Did.{Course, course, Did}
 use Rattle.view_engine.specs.Halts.{Answers, fault_of}
 use Rattle.view_engine.specs.Names.{names_of, bindings_of}
@@ -28,6 +29,12 @@ pub framed-did : (s frame : Scope) (e : Expression) (env : Bor Env) (r : Result 
 framed-did s frame e env r way same did =
     subst (λ names. Did answer_of r (evaluated frame e names) way) (names-Listed env)
     (subst (λ x. Did answer_of r (evaluated x e (names_of (Names.Listed env))) way) same did)
+
+pub framed-items : (s frame : Scope) (e : Expression) (env : Bor Env) (r : Result Value Halt) (way : Course) → s ≡ frame
+    → Did answer_of r (items_evaluated s e (names_of (Names.Listed env))) way → Did answer_of r (items_evaluated frame e (bindings_of env.now.bindings)) way
+framed-items s frame e env r way same did =
+    subst (λ names. Did answer_of r (items_evaluated frame e names) way) (names-Listed env)
+    (subst (λ x. Did answer_of r (items_evaluated x e (names_of (Names.Listed env))) way) same did)
 
 -- what is told as an answer was one
 pub counted-told : (t : Telling) (given : Result Value Halt) (value : Value) (Counts : Type 0)

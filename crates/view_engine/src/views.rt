@@ -3,21 +3,23 @@ ghost use Rattle.pointer_core.specs.Path.{Path};
 ghost use Rattle.expr_syntax.specs.Shown.{shown};
 ghost use Rattle.eval_core.specs.Asking.{view_run, frame_scope};
 ghost use Rattle.eval_core.specs.Evaluating.{evaluated};
+ghost use Rattle.answer_ops.specs.View.{answer_of};
 ghost use Rattle.live_tree.specs.Contents.{state};
-ghost use Rattle.view_engine.specs.Asks.{sight_by, telling, in_frame};
-ghost use Rattle.view_engine.specs.Did.{cost_of};
-ghost use Rattle.view_engine.specs.Names.{bindings_of};
+ghost use Rattle.view_engine.specs.Asks.{sight_by, telling, in_frame, items_in_frame, items_evaluated};
+ghost use Rattle.view_engine.specs.Did.{Did, course, cost_of};
+ghost use Rattle.view_engine.specs.Names.{names_of, bindings_of};
 ghost use Rattle.view_engine.specs.Progress.{scope_of, telling_by};
 ghost use Rattle.view_engine.specs.Saying.{IsView};
 ghost use Rattle.view_engine.specs.Told.{Tells};
 
 use crate::evaluating::{evaluate, reach};
-use crate::halt::RunError;
+use crate::halt::{Halt, RunError};
 use crate::member::Got;
 use crate::names::{Env, Names};
 use crate::path::told;
 use crate::schema::Bodies;
 use crate::scope::{Going, Scope};
+use crate::telling::all_items;
 use answer_ops::Value;
 use expr_syntax::{Expr, Steps, ViewNo};
 use live_tree::Tree;
@@ -89,6 +91,44 @@ impl Views {
         *counted = so_far;
         Ok(value)
     }
+
+    /// What is walked of what an expression gives, all of it read in order, and counted as `evaluate` does.
+    pub fn items<L: Ledger, S: Bodies>(
+        &mut self,
+        alloc: Global,
+        tree: &Tree,
+        schema: &S,
+        framed_by: &Framed<'_>,
+        counted: &mut u32,
+        steps: &mut Steps<L>,
+    ) -> Result<Value, RunError>
+        ensures answer { Tells (telling (S.says schema.now) tree.now framed_by.now.frame.now) result (items_in_frame (S.says schema.now) tree.now framed_by.now counted.old).outcome }
+        ensures counted { OnOk result (counted.new ≡ counted.old + (items_in_frame (S.says schema.now) tree.now framed_by.now counted.old).own) }
+        ensures unchanged { OnErr result (counted.new ≡ counted.old) }
+        ensures ticks { steps.new ≤ steps.old + cost_of (items_in_frame (S.says schema.now) tree.now framed_by.now counted.old) }
+    {
+        let scope = outermost(alloc, tree, schema);
+        let names = Names::Listed(framed_by.env);
+        let mut so_far = *counted;
+        let answer = evaluate_items(&scope, framed_by.expr, &names, &mut so_far, steps);
+        let value = told(&scope, framed_by.frame, answer)?;
+        *counted = so_far;
+        Ok(value)
+    }
+}
+
+/// What is walked of what an expression gives, all of it read in order.
+fn evaluate_items<L: Ledger, S: Bodies>(
+    scope: &Scope<'_, S>,
+    e: &Expr,
+    names: &Names<'_>,
+    counted: &mut u32,
+    steps: &mut Steps<L>,
+) -> Result<Value, Halt>
+    ensures { Did answer_of result (items_evaluated (scope_of S.says scope.now) (shown e.now) (names_of names.now)) (course counted.old counted.new steps.old steps.new) }
+{
+    let from = evaluate(scope, e, names, counted, steps)?;
+    all_items(scope, from)
 }
 
 /// By what the expressions of a frame are evaluated.
