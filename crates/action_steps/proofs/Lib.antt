@@ -1,1 +1,9 @@
 pub mod Doing
+pub mod PlainParts
+pub mod OneByOne
+pub mod Named
+pub mod Surrounding
+pub mod Reaching
+pub mod Names
+pub mod Starting
+pub mod Standing

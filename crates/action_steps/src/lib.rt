@@ -3,9 +3,12 @@
 #![tactic(auto)]
 
 mod acting;
+mod arguments;
 mod beginning;
+mod binding;
 mod layers;
 mod parts;
+mod plainly;
 mod writes;
 
 pub use acting::{Acting, node_in, refused};
