@@ -1,2 +1,4 @@
 pub mod Doing
 pub mod Acting
+pub mod Parts
+pub mod Writes

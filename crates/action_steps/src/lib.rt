@@ -4,9 +4,12 @@
 
 mod acting;
 mod beginning;
+mod clearing;
 mod layers;
+mod naming;
 mod parts;
 mod writes;
+mod writing;
 
 pub use acting::{Acting, node_in, refused};
 pub use beginning::{Begun, Callee, begin};
