@@ -10,7 +10,8 @@ use Rattle.eval_core.specs.Pairing.{Anything}
 use Rattle.eval_core.specs.Scope.{Env}
 use Rattle.action_core.specs.Act.{State, root_of}
 use Rattle.action_core.specs.Behaving.{Behaving, sight_in, most_statements}
-use Rattle.action_core.specs.Keeping.{Keeping, EachFine, AreFine, IsFineEnv, EachGood, IsGoodStatement, AreGood}
+use Rattle.action_core.specs.Keeping.{Keeping, EachFine, AreFine, IsFineEnv}
+use Rattle.plain_answers.specs.EachExpression.{HoldsInEach, HoldsInStatement, HoldsInBlock}
 use Rattle.action_core.specs.Laws.{GoesOn, RequestsGoOn}
 use Rattle.action_core.proofs.Kept.{called_kept}
 
@@ -24,12 +25,12 @@ fine_env : (env : Env) → IsFineEnv Anything env
 fine_env [] = tt
 fine_env (b ∷ bs) = (tt, fine_env bs)
 
-each_good : (es : Expressions) → EachGood Anything es
+each_good : (es : Expressions) → HoldsInEach Anything es
 each_good no_more = tt
 each_good (more e es) = (tt, each_good es)
 
 mutual
-  good : (st : Statement) → IsGoodStatement Anything st
+  good : (st : Statement) → HoldsInStatement Anything st
   good (set e p v) = (tt, tt)
   good (put e k v) = (tt, tt, tt)
   good (push e v) = (tt, tt)
@@ -45,7 +46,7 @@ mutual
   good (attempt a b) = (all_good a, all_good b)
   good (throw reason) = tt
 
-  all_good : (sts : Statements) → AreGood Anything sts
+  all_good : (sts : Statements) → HoldsInBlock Anything sts
   all_good done = tt
   all_good (run st sts) = (good st, all_good sts)
 

@@ -23,7 +23,8 @@ use Rattle.action_core.specs.Act.{State, Act, root_of}
 use Rattle.action_core.specs.Behaving.{Running, Callee, sight_in}
 use Rattle.action_core.specs.Beginning.{Begun, frame_of, action_under, arguments_bound, action_begun, begun_of_kind, begun_by}
 use Rattle.action_core.specs.Calling.{around, surrounded, running_on, called}
-use Rattle.action_core.specs.Keeping.{EachFine, AreFine, IsFineEnv, EachGood, IsGoodStatement, AreGood, Keeping, Keeps, scope_of}
+use Rattle.action_core.specs.Keeping.{EachFine, AreFine, IsFineEnv, Keeping, Keeps, scope_of}
+use Rattle.plain_answers.specs.EachExpression.{HoldsInEach, HoldsInStatement, HoldsInBlock}
 use Rattle.action_core.specs.Layers.{Layer, layers_of}
 use Rattle.action_core.specs.Running.{two, three, items_read, over_each, is_budget, keeping, ran, ran_block}
 use Rattle.action_core.specs.Statements.{property_set, entry_put, item_inserted, item_replaced, part_dropped, snapshot_applied}
@@ -44,7 +45,7 @@ triple : {A B C : Type 0} (P : A → Type 0) (Q : B → Type 0) (R : C → Type 
 triple P Q R e f g h i j =
     going_on P _ e _ h (λ x fine. going_on Q _ f _ i (λ y good. going_on R _ g _ j (λ z well. given _ (x, y, z) (fine, good, well))))
 
-many : (k : Keeping) (s : State) → k.Fit s → (es : Expressions) → EachGood k.Good es → (env : Env) → IsFineEnv k.Fine env
+many : (k : Keeping) (s : State) → k.Fit s → (es : Expressions) → HoldsInEach k.Good es → (env : Env) → IsFineEnv k.Fine env
     → Gives (AreFine k.Fine) (all_evaluated (scope_of k.behaving s) es env)
 many k s fit no_more good env fine = given _ no_answers tt
 many k s fit (more e es) good env fine =
@@ -70,7 +71,7 @@ each_of k body h [] fine = telling k Anything (Ok tt) tt
 each_of k body h (x ∷ xs) fine = thens k Anything Anything (body x) _ (h x fine.0) (λ one any. each_of k body h xs fine.1)
 
 mutual
-  statement_kept : (k : Keeping) (r : Running) (by : Callee → Act (Unit {0})) → CallsKept k by → (st : Statement) → IsGoodStatement k.Good st
+  statement_kept : (k : Keeping) (r : Running) (by : Callee → Act (Unit {0})) → CallsKept k by → (st : Statement) → HoldsInStatement k.Good st
       → (env : Env) → IsFineEnv k.Fine env → Keeps k (IsFineEnv k.Fine) (ran (acting k r by) st env)
   statement_kept k r by h (set e p v) good env fine =
       binding_none k env fine _ (thens k _ Anything _ _
@@ -120,7 +121,7 @@ mutual
       (λ e. choosing k Anything (is_budget e.rule) _ _ (telling k Anything (Err e) tt) (block_kept k r by h second good.1 env fine)))
   statement_kept k r by h (throw reason) good env fine = refusing k (IsFineEnv k.Fine) r.frame (rule.Thrown reason)
 
-  block_kept : (k : Keeping) (r : Running) (by : Callee → Act (Unit {0})) → CallsKept k by → (sts : Statements) → AreGood k.Good sts
+  block_kept : (k : Keeping) (r : Running) (by : Callee → Act (Unit {0})) → CallsKept k by → (sts : Statements) → HoldsInBlock k.Good sts
       → (env : Env) → IsFineEnv k.Fine env → Keeps k Anything (ran_block (acting k r by) sts env)
   block_kept k r by h done good env fine = telling k Anything (Ok tt) tt
   block_kept k r by h (run st sts) good env fine =
@@ -143,7 +144,7 @@ surrounded_kept k frame (layer ∷ layers) body h = around_kept k frame layer.no
 -- Beginning.
 
 abbrev IsWell : Keeping → Begun → Type 0
-IsWell k begun = AreGood k.Good begun.body × IsFineEnv k.Fine begun.env
+IsWell k begun = HoldsInBlock k.Good begun.body × IsFineEnv k.Fine begun.env
 
 appended : (Fine : Answer → Type 0) (xs ys : Env) → IsFineEnv Fine xs → IsFineEnv Fine ys → IsFineEnv Fine (xs ++ ys)
 appended Fine [] ys h g = g
@@ -162,14 +163,14 @@ some_any : {A : Type 0} (o : Option A) → IfSome o Anything
 some_any (Some x) = tt
 some_any None = tt
 
-action_well : (k : Keeping) (s : State) → k.Fit s → (callee : Callee) → AreFine k.Fine callee.given → (action : ShownAction) → AreGood k.Good action.body
+action_well : (k : Keeping) (s : State) → k.Fit s → (callee : Callee) → AreFine k.Fine callee.given → (action : ShownAction) → HoldsInBlock k.Good action.body
     → IfOk (action_begun k.behaving callee (root_of s) action) (IsWell k)
 action_well k s fit callee fine action good =
     then_well (IsFineEnv k.Fine) (IsWell k) (arguments_bound k.behaving callee (root_of s) action)
     (λ env. Ok (record { frame = frame_of callee (root_of s); body = action.body; env = env ++ bound_at (sight_in k.behaving (root_of s)) callee.node }))
     (k.binds s fit callee fine action) (λ env well. (good, appended k.Fine env _ well (k.bound s fit callee.node)))
 
-under_well : (k : Keeping) (name : List ℕ) (kind : Kind) → IfSome (action_under k.behaving name kind) (λ (a : ShownAction). AreGood k.Good a.body)
+under_well : (k : Keeping) (name : List ℕ) (kind : Kind) → IfSome (action_under k.behaving name kind) (λ (a : ShownAction). HoldsInBlock k.Good a.body)
 under_well k name (Model m) = k.actions m name
 under_well k name (Array t) = tt
 under_well k name (Map t) = tt
@@ -179,7 +180,7 @@ begun_well : (k : Keeping) (s : State) → k.Fit s → (caller : Path) (callee :
 begun_well k s fit caller callee fine =
     then_well Anything (IsWell k) (or_refuse (kind_at callee.node.0 (root_of s)) caller rule.Dead) (begun_of_kind k.behaving callee (root_of s))
     (or_well Anything (kind_at callee.node.0 (root_of s)) caller rule.Dead (some_any (kind_at callee.node.0 (root_of s))))
-    (λ kind any. then_well (λ (a : ShownAction). AreGood k.Good a.body) (IsWell k)
+    (λ kind any. then_well (λ (a : ShownAction). HoldsInBlock k.Good a.body) (IsWell k)
     (or_refuse (action_under k.behaving callee.name kind) (frame_of callee (root_of s)) rule.Unknown) (action_begun k.behaving callee (root_of s))
     (or_well _ (action_under k.behaving callee.name kind) (frame_of callee (root_of s)) rule.Unknown (under_well k callee.name kind))
     (λ action good. action_well k s fit callee fine action good))

@@ -2,7 +2,7 @@
 use Rattle.std.specs.Prelude.{◌≡◌, ℕ, suc, nat_lt, true, List, [], ◌∷◌, Ok, IfOk, IfSome}
 use Rattle.snap_core.specs.declared.number.ModelNo.{ModelNo}
 use Rattle.snap_core.specs.declared.number.NodeNo.{NodeNo}
-use Rattle.expr_syntax.specs.Syntax.{Expression, Expressions, Statement, Statements, no_more, more, set, put, push, insert, replace, drop, clear, apply, each, call, attempt, throw, done, run}
+use Rattle.expr_syntax.specs.Syntax.{Expression}
 use Rattle.model_syntax.specs.Shown.{ShownAction}
 use Rattle.tree_core.specs.Changed.{Changed}
 use Rattle.tree_core.specs.Recorded.{tree_in}
@@ -12,6 +12,7 @@ use Rattle.eval_core.specs.Asking.{frame_scope, bound_at}
 use Rattle.eval_core.specs.Evaluating.{evaluated}
 use Rattle.eval_core.specs.Run.{Run}
 use Rattle.eval_core.specs.Scope.{Scope, Env}
+use Rattle.plain_answers.specs.EachExpression.{HoldsInBlock}
 use Rattle.action_core.specs.Act.{State, Ran, Act, root_of, with_change, with_met, taken_back}
 use Rattle.action_core.specs.Behaving.{Behaving, Callee, sight_in, most_statements}
 use Rattle.action_core.specs.Beginning.{arguments_bound}
@@ -37,33 +38,6 @@ GivesFine Fine (sets x) = Fine x
 GivesFine Fine (inserts x) = Fine x
 GivesFine Fine removes = Unit {0}
 
--- A fact of each expression of a statement.
-
-abbrev pub EachGood : (Expression → Type 0) → Expressions → Type 0
-EachGood Good no_more = Unit {0}
-EachGood Good (more e es) = Good e × EachGood Good es
-
-abbrev mutual
-  pub IsGoodStatement : (Expression → Type 0) → Statement → Type 0
-  IsGoodStatement Good (set e p v) = Good e × Good v
-  IsGoodStatement Good (put e k v) = Good e × Good k × Good v
-  IsGoodStatement Good (push e v) = Good e × Good v
-  IsGoodStatement Good (insert e i v) = Good e × Good i × Good v
-  IsGoodStatement Good (replace e i v) = Good e × Good i × Good v
-  IsGoodStatement Good (drop e k) = Good e × Good k
-  IsGoodStatement Good (clear e) = Good e
-  IsGoodStatement Good (apply e v) = Good e × Good v
-  IsGoodStatement Good (Statement.bind x e) = Good e
-  IsGoodStatement Good (Statement.choice c a b) = Good c × AreGood Good a × AreGood Good b
-  IsGoodStatement Good (each e x b) = Good e × AreGood Good b
-  IsGoodStatement Good (call e name es) = Good e × EachGood Good es
-  IsGoodStatement Good (attempt a b) = AreGood Good a × AreGood Good b
-  IsGoodStatement Good (throw reason) = Unit {0}
-
-  pub AreGood : (Expression → Type 0) → Statements → Type 0
-  AreGood Good done = Unit {0}
-  AreGood Good (run st sts) = IsGoodStatement Good st × AreGood Good sts
-
 -- by what the expressions of a state's statements are evaluated
 abbrev pub scope_of : Behaving → State → Scope
 scope_of behaving s = frame_scope behaving.viewing (sight_in behaving (root_of s))
@@ -82,7 +56,7 @@ pub record Keeping : Type 1 where
   pub Fine : Answer → Type 0
   pub Good : Expression → Type 0
   -- the fact of expressions holds of all that actions run
-  pub actions : (m : ModelNo) (name : List ℕ) → IfSome (behaving.action_of m name) (λ (a : ShownAction). AreGood Good a.body)
+  pub actions : (m : ModelNo) (name : List ℕ) → IfSome (behaving.action_of m name) (λ (a : ShownAction). HoldsInBlock Good a.body)
   -- the relation leads on
   pub stays : (s : State) → Rel s s
   pub goes_on : (a b c : State) → Rel a b → Rel b c → Rel a c

@@ -51,16 +51,16 @@ use Rattle.action_laws.proofs.Writes.{WritesValue, given-written}
 
 -- Evaluating over a plain tree.
 
-env-plain : (env : Env) → IsFineEnv IsPlainAnswer env → IsPlainEnv env
+pub env-plain : (env : Env) → IsFineEnv IsPlainAnswer env → IsPlainEnv env
 env-plain [] h = tt
 env-plain (b ∷ bs) h = (h.0, env-plain bs h.1)
 
-fine-given : (xs : Answers) → ArePlainAnswers xs → AreFine IsPlainAnswer xs
+pub fine-given : (xs : Answers) → ArePlainAnswers xs → AreFine IsPlainAnswer xs
 fine-given no_answers h = tt
 fine-given (answer x xs) h = (h.0, fine-given xs h.1)
 
 module _ (behaving : Behaving) (well : IsPlainBehaving behaving) (s : State) (plain : IsPlain (bare (root_of s))) where
-  evaluates : (e : Expression) → HasPlainConstants e → (env : Env) → IsFineEnv IsPlainAnswer env → Gives IsPlainAnswer (evaluated (scope_of behaving s) e env)
+  pub evaluates : (e : Expression) → HasPlainConstants e → (env : Env) → IsFineEnv IsPlainAnswer env → Gives IsPlainAnswer (evaluated (scope_of behaving s) e env)
   evaluates e good env fine before =
       (trees-plain behaving.viewing (record { table = behaving.types.table; tree = root_of s }) well.views plain).expressions e env before good (env-plain env fine)
 
@@ -80,7 +80,7 @@ module _ (behaving : Behaving) (well : IsPlainBehaving behaving) (s : State) (pl
       going_on IsPlainAnswer (EachFine IsPlainAnswer) _ _ (reading i (h.0, tt))
       (λ x fine. going_on (EachFine IsPlainAnswer) (EachFine IsPlainAnswer) _ _ (all-read is h.1) (λ xs rest. plain_giving.given (EachFine IsPlainAnswer) (x ∷ xs) (fine, rest)))
 
-  walks : (x : Answer) → IsPlainAnswer x → Gives (EachFine IsPlainAnswer) (items_read (scope_of behaving s) x)
+  pub walks : (x : Answer) → IsPlainAnswer x → Gives (EachFine IsPlainAnswer) (items_read (scope_of behaving s) x)
   walks x fine = going_on ArePlainItems (EachFine IsPlainAnswer) (walked (scope_of behaving s) x) _ (walking (scope_of behaving s) scope-plain x fine) all-read
 
 -- Trees.

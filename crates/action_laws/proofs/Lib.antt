@@ -1,7 +1,7 @@
 mod Plain
-mod Arguments
-mod Writes
-mod Leading
-mod Schemas
+pub mod Arguments
+pub mod Writes
+pub mod Leading
+pub mod Schemas
 mod Settled
 mod Nothing

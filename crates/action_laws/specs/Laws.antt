@@ -15,7 +15,7 @@ use Rattle.plain_answers.specs.Plainness.{HasPlainConstants, HasPlainBodies, Are
 use Rattle.action_core.specs.Act.{State, root_of}
 use Rattle.action_core.specs.Behaving.{Behaving, Running, Callee}
 use Rattle.action_core.specs.Calling.{called}
-use Rattle.action_core.specs.Keeping.{AreGood}
+use Rattle.plain_answers.specs.EachExpression.{HoldsInBlock}
 use Rattle.action_core.specs.Laws.{HasAtomic}
 use Rattle.action_core.specs.Layers.{layers_of}
 
@@ -23,7 +23,7 @@ use Rattle.action_core.specs.Layers.{layers_of}
 pub record IsPlainBehaving (behaving : Behaving) : Type 0 where
   pub sound : IsSound behaving.types
   pub views : HasPlainBodies behaving.viewing
-  pub actions : (m : ModelNo) (name : List ℕ) → IfSome (behaving.action_of m name) (λ (a : ShownAction). AreGood HasPlainConstants a.body)
+  pub actions : (m : ModelNo) (name : List ℕ) → IfSome (behaving.action_of m name) (λ (a : ShownAction). HoldsInBlock HasPlainConstants a.body)
 
 -- What was kept leads on and can be taken back, no number being given out twice, and the tree is sound.
 pub record Leads (types : Catalog) (before after : Tree) : Type 0 where

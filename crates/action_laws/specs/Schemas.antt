@@ -13,7 +13,7 @@ use Rattle.expr_core.specs.Plain.{HavePlainConstants}
 use Rattle.expr_core.specs.Schema.{views_in}
 use Rattle.schema_views.specs.Saying.{saying_by}
 use Rattle.action_core.specs.Behaving.{Behaving}
-use Rattle.action_core.specs.Keeping.{AreGood}
+use Rattle.plain_answers.specs.EachExpression.{HoldsInBlock}
 use Rattle.action_laws.specs.Laws.{IsPlainBehaving}
 
 -- the action of a name of a model, if the model has one
@@ -38,7 +38,7 @@ behaving_by types behaviours =
 
 -- the constants in the body of an action are plain, and so in all actions of each model
 abbrev pub HasPlainAction : ShownAction → Type 0
-HasPlainAction a = AreGood HasPlainConstants a.body
+HasPlainAction a = HoldsInBlock HasPlainConstants a.body
 
 abbrev pub HavePlainActions : List ShownBehaviour → Type 0
 HavePlainActions behaviours = All (λ (b : ShownBehaviour). All HasPlainAction b.actions) behaviours

@@ -9,7 +9,10 @@
 //! ```
 #![tactic(auto)]
 
+mod binding;
+mod guarding;
 mod run;
+mod running;
 
 pub use action_steps::Callee;
 pub use run::run;

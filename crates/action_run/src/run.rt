@@ -8,13 +8,18 @@ ghost use Rattle.action_core.specs.Calling.{acted};
 ghost use Rattle.action_steps.specs.Acting.{behaving_of, callee_of};
 ghost use Rattle.action_run.specs.Running.{Runs, Costs};
 
-use action_steps::Callee;
+use crate::running::call;
+use action_steps::{Acting, Callee};
 use expr_core::Schema;
 use expr_syntax::Steps;
 use live_tree::Tree;
+use pointer_core::Pointer;
 use std::alloc::Global;
 use std::sync::ledger::Ledger;
 use view_engine::RunError;
+
+/// How many actions may run at once.
+const MOST_ACTIONS: u32 = 32;
 
 /// Runs an action. What it wrote before a refusal stays, unless a middleware took it back; after want of memory the
 /// caller rolls the tree back.
@@ -30,5 +35,14 @@ pub fn run<L: Ledger>(
     ensures ticks { Costs result (acted (behaving_of schema.now) (callee_of callee.now) (state_of (state tree.old))) steps.old steps.new }
     ensures kept { CanBeTakenBack (state tree.old) (state tree.new) }
 {
-    Err(RunError::Memory)
+    let frame = Pointer::new(alloc);
+    let outside = Acting {
+        alloc,
+        schema,
+        running: &[],
+        frame: &frame,
+        room: MOST_ACTIONS,
+    };
+    let mut counted = 0;
+    call(&outside, callee, tree, &mut counted, steps)
 }

@@ -19,7 +19,7 @@ use Rattle.view_engine.specs.declared.halt.RunError.TheVariants as halts
 use Rattle.action_core.specs.Act.{Tried, Met, State, Ran, Act, came, tells, gives, refuses, looks, ◌>>=◌, or_else, all_or_nothing, taken_back}
 use Rattle.action_core.specs.Behaving.{on_node}
 use Rattle.action_core.proofs.Composing.{then-came, then-refused, tried-came, tried-refused, atomic-came, atomic-refused, tells-came, looks-came}
-use Rattle.action_steps.specs.Doing.{Point, point, state_at, spent, Stands, Came, Acts, IsOutcome, IsRefusal, is_node, IsNodeIn}
+use Rattle.action_steps.specs.Doing.{Point, point, state_at, spent, Stands, Came, Acts, back_at, IsOutcome, IsRefusal, is_node, IsNodeIn}
 
 -- A point stands for its state.
 
@@ -182,10 +182,6 @@ acts-kept {T} {A} seen x act a b did = record {
   back = did.back;
   rises = did.rises;
 }
-
--- a point with the tree of an earlier one, where no number is given out twice
-abbrev pub back_at : Point → Point → Point
-back_at a b = point (given_back a.tree b.tree) b.counted b.steps
 
 pub acts-taken-back : {T A : Type 0} (seen : T → A) (e : RunError) (act : Act A) (a b : Point)
     → Acts {T = T} seen (Err e) act a b → Acts {T = T} seen (Err e) (all_or_nothing act) a (back_at a b)

@@ -7,7 +7,7 @@ use Rattle.pointer_core.specs.declared.refusal.Rule.TheVariants as rule
 use Rattle.pointer_core.specs.declared.refusal.Refusal.{Refusal}
 use Rattle.type_core.specs.Making.{Outcome}
 use Rattle.type_core.specs.Made.{refused_as}
-use Rattle.live_tree.specs.Laws.{CanBeTakenBack}
+use Rattle.live_tree.specs.Laws.{CanBeTakenBack, given_back}
 use Rattle.tree_core.specs.State.{State as Tree}
 use Rattle.eval_core.specs.Answer.{Answer, node}
 use Rattle.view_engine.specs.Did.{counted_within}
@@ -51,6 +51,10 @@ pub record Acts {T A : Type 0} (seen : T → A) (result : Result T RunError) (ac
   pub came : (tried : List Tried) (met : List Met) → Came seen result (act (state_at from tried met)) (spent met) from to
   pub back : CanBeTakenBack from.tree to.tree
   pub rises : from.counted ≤ to.counted
+
+-- a point with the tree of an earlier one; no number is given out twice
+abbrev pub back_at : Point → Point → Point
+back_at a b = point (given_back a.tree b.tree) b.counted b.steps
 
 -- What is told without a change of the tree.
 

@@ -5,7 +5,7 @@ ghost use Rattle.answer_ops.specs.View.{answers_of};
 ghost use Rattle.live_tree.specs.Contents.{state};
 ghost use Rattle.plain_answers.specs.Plainness.{ArePlainAnswers, IsPlainEnv, HasPlainConstants};
 ghost use Rattle.action_core.specs.Beginning.{begun_by};
-ghost use Rattle.action_core.specs.Keeping.{AreGood};
+ghost use Rattle.plain_answers.specs.EachExpression.{HoldsInBlock};
 ghost use Rattle.action_steps.specs.Acting.{behaving_of, callee_of, env_of, Begins};
 
 use answer_ops::Values;
@@ -18,6 +18,7 @@ use std::alloc::Global;
 use view_engine::{Env, RunError};
 
 /// An action that is called: of which node, its name, and what it is given.
+#[derive(Drop)]
 pub struct Callee<'a> {
     pub node: NodeNo,
     pub name: &'a str,
@@ -44,7 +45,7 @@ pub fn begin<'a>(
     requires { ArePlainAnswers (answers_of callee.now.args.now) }
     ensures outcome { Begins result (begun_by (behaving_of schema.now) caller.now (callee_of callee.now) (state tree.now).tree) }
     ensures bound { IfOk result (λ begun. IsPlainEnv (env_of begun.env)) }
-    ensures constants { IfOk result (λ begun. AreGood HasPlainConstants (block_shown begun.body.now)) }
+    ensures constants { IfOk result (λ begun. HoldsInBlock HasPlainConstants (block_shown begun.body.now)) }
 {
     Err(RunError::Memory)
 }

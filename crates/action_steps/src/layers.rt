@@ -40,6 +40,7 @@ pub fn layers_around<'a>(
 }
 
 /// A condition of a node, in the frame of the action that it guards.
+#[derive(Drop)]
 pub struct Guard<'a> {
     pub node: NodeNo,
     pub condition: &'a Expr,

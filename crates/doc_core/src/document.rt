@@ -6,6 +6,7 @@ ghost use Rattle.doc_core.specs.Staging.{IsAsBefore};
 
 use live_tree::{Mark, Tree};
 use patch_core::Patches;
+use pointer_core::Refusal;
 use std::marker::Model;
 
 /// A document of a schema, which each of its calls is given again. Contracts see its labelled snapshot and what is
@@ -26,10 +27,12 @@ impl Model for Document {
     ghost view = { λ d. d.tree };
 }
 
-/// What a request did to a document, which can still be taken back: its patches, those of settling last.
+/// What a request did to a document, which can still be taken back: its patches, those of settling last. A refused action
+/// keeps what it wrote before, unless a middleware took that back; so its refusal stands beside the patches.
 #[derive(Debug, Drop)]
 pub struct Staged {
     pub patches: Patches,
+    pub fault: Option<Refusal>,
 }
 
 impl Document {

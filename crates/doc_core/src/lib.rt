@@ -9,12 +9,15 @@
 //! }
 //! let shown = document.snapshot(alloc, &Pointer::new(alloc))?;
 //! let answer = document.view(alloc, &schema, &user, "height", &mut steps)?;
+//! let staged = document.act(alloc, &schema, &user, "rename", &args, &mut steps)?;
 //! ```
 //!
-//! A request leaves exactly what its definition says, settling included, or its first refusal. After an error a document
-//! is as before, and so it is after `cancel`, with the very nodes. Neither `cancel` nor `commit` takes memory.
+//! A request leaves exactly what its definition says, settling included, or its first refusal; an action that is refused
+//! and yet left patches is staged, with its refusal beside them. After an error a document is as before, and so it is
+//! after `cancel`, with the very nodes. Neither `cancel` nor `commit` takes memory.
 #![tactic(auto)]
 
+mod acting;
 mod creating;
 mod document;
 mod error;

@@ -20,7 +20,7 @@ use patch_core::Patches;
 use pointer_core::{Pointer, Refusal, Rule};
 use snap_core::Snap;
 use std::alloc::Global;
-use tree_core::{Change, Place, TreeError};
+use tree_core::{Change, Place, Target, TreeError};
 use type_core::Types;
 
 impl Document {
@@ -82,12 +82,23 @@ fn write_root(tree: &mut Tree, alloc: Global, types: &Types, given: &Snap) -> Re
         }));
     };
     let change = Change::Set(given.clone_in(alloc)?);
-    tree.write(alloc, types, &[root], &Place::Whole(root), change)?;
+    let place = Place::Whole(root);
+    let to = Target {
+        running: &[root],
+        place: &place,
+        named: None,
+    };
+    tree.write(alloc, types, &to, change)?;
     Ok(())
 }
 
 // Settles what was written and tells all patches. After an error the tree is as at the mark.
-fn settle(tree: &mut Tree, alloc: Global, types: &Types, mark: Mark) -> Result<Staged, DocError>
+pub(crate) fn settle(
+    tree: &mut Tree,
+    alloc: Global,
+    types: &Types,
+    mark: Mark,
+) -> Result<Staged, DocError>
     ensures settled { IfOk result (λ staged. Settles types.now (state tree.old) (state tree.new) staged) }
     ensures memory { IfErr result (λ error. error ≡ DocError.Memory) }
     ensures kept { OnOk result (CanBeTakenBack (state tree.old) (state tree.new)) }
@@ -95,7 +106,10 @@ fn settle(tree: &mut Tree, alloc: Global, types: &Types, mark: Mark) -> Result<S
         → OnErr result (IsAsBefore before (state tree.new)) }
 {
     match settle_tree(tree, alloc, types) {
-        Ok(patches) => Ok(Staged { patches }),
+        Ok(patches) => Ok(Staged {
+            patches,
+            fault: None,
+        }),
         Err(_) => {
             tree.roll_back(mark);
             Err(DocError::Memory)

@@ -40,7 +40,7 @@ pub fn rule_body(alloc: Global, rule: &Rule) -> Result<Snap, AllocError>
     only(alloc, "error", Snap::Text(name))
 }
 
-/// The record that names a rule and a place.
+/// The record that names a rule and a place, and the reason that an action gave.
 pub fn place_body(alloc: Global, refusal: &Refusal) -> Result<Snap, AllocError>
     ensures { IfOk result (λ body. view body ≡ replies.place_body refusal.now.rule refusal.now.path) }
 {
@@ -49,7 +49,18 @@ pub fn place_body(alloc: Global, refusal: &Refusal) -> Result<Snap, AllocError>
     let mut fields = Parts::new(alloc);
     push(alloc, &mut fields, "error", Snap::Text(name))?;
     push(alloc, &mut fields, "path", Snap::Text(path))?;
+    push_reason(alloc, &mut fields, &refusal.rule)?;
     Ok(Snap::Dict(fields))
+}
+
+// The reason, where an action ended itself.
+fn push_reason(alloc: Global, fields: &mut Fields, rule: &Rule) -> Result<(), AllocError>
+    ensures { OnOk result (map entry fields.new ≡ map entry fields.old ++ replies.reason_of rule.now) }
+{
+    match rule {
+        Rule::Thrown(reason) => push(alloc, fields, "reason", Snap::Text(reason.clone_in()?)),
+        _ => Ok(()),
+    }
 }
 
 /// The list of some texts, which it takes over.
@@ -77,12 +88,38 @@ pub fn node_value(target: Option<&Pointer>) -> Result<Snap, AllocError>
 pub fn change_body(alloc: Global, patches: &Patches) -> Result<Snap, PatchError>
     ensures { IfOk result (λ body. view body ≡ replies.change_body patches.now) }
 {
+    let mut fields = Parts::new(alloc);
+    push_change(alloc, &mut fields, patches)?;
+    Ok(Snap::Dict(fields))
+}
+
+/// The record of a refused action that kept patches.
+pub fn refused_change_body(
+    alloc: Global,
+    refusal: &Refusal,
+    patches: &Patches,
+) -> Result<Snap, PatchError>
+    ensures { IfOk result (λ body. view body ≡ replies.refused_change_body refusal.now.rule refusal.now.path patches.now) }
+{
+    let name = Txt::copy(alloc, refusal.rule.name())?;
+    let path = refusal.path.print()?;
+    let mut fields = Parts::new(alloc);
+    push(alloc, &mut fields, "error", Snap::Text(name))?;
+    push_change(alloc, &mut fields, patches)?;
+    push(alloc, &mut fields, "path", Snap::Text(path))?;
+    push_reason(alloc, &mut fields, &refusal.rule)?;
+    Ok(Snap::Dict(fields))
+}
+
+// The inverses and the patches of a change.
+fn push_change(alloc: Global, fields: &mut Fields, patches: &Patches) -> Result<(), PatchError>
+    ensures { OnOk result (map entry fields.new ≡ map entry fields.old ++ replies.change_of patches.now) }
+{
     let inverse = print_patches(alloc, &inverses(alloc, patches)?)?;
     let patches = print_patches(alloc, patches)?;
-    let mut fields = Parts::new(alloc);
-    push(alloc, &mut fields, "inverse", inverse)?;
-    push(alloc, &mut fields, "patches", patches)?;
-    Ok(Snap::Dict(fields))
+    push(alloc, fields, "inverse", inverse)?;
+    push(alloc, fields, "patches", patches)?;
+    Ok(())
 }
 
 // The inverse of each patch, in the same order.

@@ -4,6 +4,7 @@
 //! let bytes = rule_reply(alloc, request.close, &Rule::Unknown)?;
 //! let bytes = snapshot_reply(alloc, request.close, 201, value)?;
 //! let bytes = change_reply(alloc, request.close, &staged.patches)?;
+//! let bytes = refused_change_reply(alloc, request.close, &refusal, &staged.patches)?;
 //! ```
 //!
 //! Each body is the compact JSON text of a record with ascending keys. The inverses of a change stand in the order of its
@@ -15,5 +16,5 @@ mod replies;
 
 pub use replies::{
     answer_reply, change_reply, method_reply, names_reply, node_reply, refusal_reply,
-    removed_reply, rule_reply, snapshot_reply,
+    refused_change_reply, removed_reply, rule_reply, snapshot_reply,
 };

@@ -7,7 +7,9 @@ ghost use Rattle.http.specs.StatusCode.{IsStatusCode, reason_phrase};
 ghost use Rattle.http_front.specs.Reply.{printed};
 ghost use Rattle.host_replies.specs.Replies as replies;
 
-use crate::bodies::{change_body, list_of_texts, node_value, only, place_body, rule_body};
+use crate::bodies::{
+    change_body, list_of_texts, node_value, only, place_body, refused_change_body, rule_body,
+};
 use http_front::print_reply;
 use patch_core::Patches;
 use pointer_core::{Pointer, Refusal, Rule};
@@ -24,7 +26,7 @@ pub fn rule_reply(alloc: Global, close: bool, rule: &Rule) -> Result<Bytes, Allo
     reply(alloc, rule.status(), close, &body)
 }
 
-/// The reply that names a rule and a place.
+/// The reply that names a rule and a place, and the reason that an action gave.
 #[tactic(auto, using(crate::proofs::Statuses::status_is_code))]
 pub fn refusal_reply(alloc: Global, close: bool, refusal: &Refusal) -> Result<Bytes, AllocError>
     ensures { IfOk result (λ bytes. bytes ≡ printed close (replies.place_reply refusal.now.rule refusal.now.path)) }
@@ -97,6 +99,23 @@ pub fn change_reply(alloc: Global, close: bool, patches: &Patches) -> Result<Byt
 {
     match change_body(alloc, patches) {
         Ok(body) => reply(alloc, 200, close, &body),
+        Err(_) => Err(AllocError),
+    }
+}
+
+/// The reply to an action that is refused and yet kept patches: the refusal beside the change.
+#[tactic(auto, using(crate::proofs::Statuses::status_is_code))]
+pub fn refused_change_reply(
+    alloc: Global,
+    close: bool,
+    refusal: &Refusal,
+    patches: &Patches,
+) -> Result<Bytes, AllocError>
+    requires { All HasPlainValues patches.now }
+    ensures { IfOk result (λ bytes. bytes ≡ printed close (replies.refused_change_reply refusal.now.rule refusal.now.path patches.now)) }
+{
+    match refused_change_body(alloc, refusal, patches) {
+        Ok(body) => reply(alloc, refusal.rule.status(), close, &body),
         Err(_) => Err(AllocError),
     }
 }

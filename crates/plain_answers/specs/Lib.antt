@@ -1,2 +1,3 @@
 pub mod Plainness
+pub mod EachExpression
 pub mod Laws

@@ -1,6 +1,6 @@
 -- An expression that is read of a value whose keys are in order has plain constants.
 use Rattle.std.proofs.Common.{◌≡◌, ℕ, zero, suc, ◌+◌, List, Bool, true, false, Option, Some, None, refl, subst}
-use Rattle.std.specs.Prelude.{ℤ, IfSome, IsTrue, decimal, option_and_then}
+use Rattle.std.specs.Prelude.{ℤ, IfSome, IsTrue, option_and_then}
 use Rattle.snap_core.specs.Value.{Value, null, boolean, integer, text, list, dict, no_parts, part, no_members, member, is_whole, Items, Fields, IsPlain, ArePlain, ArePlainMembers, IsOrdered, AreOrdered, AreOrderedMembers}
 use Rattle.snap_core.specs.declared.number.ModelNo.{ModelNo}
 use Rattle.pointer_core.specs.declared.schema_rule.SchemaRule.TheVariants.{Shape}
@@ -26,76 +26,17 @@ use Rattle.expr_form.specs.declared.keys.Two.TheVariants as two
 use Rattle.expr_form.specs.declared.keys.Named.{Named}
 use Rattle.expr_form.specs.declared.keys.Named.TheVariants as named
 use Rattle.expr_form.specs.declared.keys.Walk.{Walk}
-use Rattle.expr_form.specs.Outcome.{Outcome, wrong, astray, reads, if_so, under, at, both, made, and_then, of_parts}
+use Rattle.expr_form.specs.Outcome.{Outcome, wrong, astray, reads, if_so, at}
 use Rattle.expr_form.specs.Keys.{key_of}
 use Rattle.expr_form.specs.Texts.{pair_in, triple_in, items_in, fields_in}
 use Rattle.expr_form.specs.Names.{name_read, variable_read, binder_read, bound}
 use Rattle.expr_form.specs.Models.{Lookup, entry_read}
 use Rattle.expr_form.specs.Numbers
-use Rattle.expr_form.specs.Numbers.{behind, whole_read, numbers_read}
+use Rattle.expr_form.specs.Numbers.{numbers_read}
 use Rattle.expr_form.specs.Expressions.{Names, Reader, one_made, two_made, named_made, leaf_read, two_parts, named_parts, pair_parts, walk_parts, choice_parts, binding_parts, triple_parts, items_read, members_read, aimed, aim_made, aim_target, aim_parts, aim_read, group_read, Formed, keyed_read, known, own_form, formed_read, expr_read, most_open, expression_read}
-
--- a fact of what is read, where something is
-abbrev IfReads : {A : Type 0} → Outcome A → (A → Type 0) → Type 0
-IfReads (wrong f) P = Unit {0}
-IfReads (astray path) P = Unit {0}
-IfReads (reads a) P = P a
-
-abbrev Anything : {A : Type 0} → A → Type 0
-Anything x = Unit {0}
-
-anyhow : {A : Type 0} (o : Outcome A) → IfReads o Anything
-anyhow (wrong f) = tt
-anyhow (astray path) = tt
-anyhow (reads a) = tt
-
-made-fine : {A B : Type 0} (P : A → Type 0) (Q : B → Type 0) (f : A → B) (o : Outcome A) → ((a : A) → P a → Q (f a)) → IfReads o P → IfReads (made f o) Q
-unfolding made
-made-fine P Q f (wrong fault) h fine = tt
-made-fine P Q f (astray path) h fine = tt
-made-fine P Q f (reads a) h fine = h a fine
-
-both-fine : {A B : Type 0} (P : A → Type 0) (Q : B → Type 0) (o : Outcome A) (u : Outcome B) → IfReads o P → IfReads u Q → IfReads (both o u) (λ q. P q.0 × Q q.1)
-unfolding both
-both-fine P Q (wrong f) u h k = tt
-both-fine P Q (astray path) (wrong f) h k = tt
-both-fine P Q (astray path) (astray other) h k = tt
-both-fine P Q (astray path) (reads b) h k = tt
-both-fine P Q (reads a) (wrong f) h k = tt
-both-fine P Q (reads a) (astray path) h k = tt
-both-fine P Q (reads a) (reads b) h k = (h, k)
-
-under-fine : {A : Type 0} (P : A → Type 0) (token : List ℕ) (o : Outcome A) → IfReads o P → IfReads (under token o) P
-unfolding under
-under-fine P token (wrong f) h = tt
-under-fine P token (astray path) h = tt
-under-fine P token (reads a) h = h
-
-at-fine : {A : Type 0} (P : A → Type 0) (i : ℕ) (o : Outcome A) → IfReads o P → IfReads (at i o) P
-at-fine P i o h = under-fine P (decimal i) o h
-
-of_parts-fine : {A B : Type 0} (P : A → Type 0) (Q : B → Type 0) (o : Option A) (read : A → Outcome B) → IfSome o P → ((a : A) → P a → IfReads (read a) Q) → IfReads (of_parts o read) Q
-unfolding of_parts
-of_parts-fine P Q (Some a) read fine h = h a fine
-of_parts-fine P Q None read fine h = tt
-
-then-fine : {A B : Type 0} (P : A → Type 0) (Q : B → Type 0) (o : Outcome A) (next : A → Outcome B) → IfReads o P → ((a : A) → P a → IfReads (next a) Q) → IfReads (and_then o next) Q
-unfolding and_then
-then-fine P Q (wrong f) next fine h = tt
-then-fine P Q (astray path) next fine h = tt
-then-fine P Q (reads a) next fine h = h a fine
-
-behind-fine : {A : Type 0} (P : Type 0) (Q : A → Type 0) (o : Outcome (Unit {0})) (rest : Outcome A) → IfReads o (λ u. P) → (P → IfReads rest Q) → IfReads (behind o rest) Q
-behind-fine P Q (wrong f) rest h k = tt
-behind-fine P Q (astray path) rest h k = tt
-behind-fine P Q (reads u) rest h k = k h
+use Rattle.plain_bodies.proofs.Outcomes.{IfReads, Anything, anyhow, made-fine, both-fine, under-fine, at-fine, of_parts-fine, then-fine, behind-fine, weaken}
 
 -- a value in order is plain where its numbers are read
-weaken : {A : Type 0} (P Q : A → Type 0) (o : Outcome A) → ((a : A) → P a → Q a) → IfReads o P → IfReads o Q
-weaken P Q (wrong f) h fine = tt
-weaken P Q (astray path) h fine = tt
-weaken P Q (reads a) h fine = h a fine
-
 whole-fine : {A : Type 0} (b : Bool) (a : A) → IfReads (if_so b Shape a) (λ u. IsTrue b)
 whole-fine true a = refl
 whole-fine false a = tt
@@ -125,7 +66,7 @@ mutual
 abbrev Fine : Outcome Expression → Type 0
 Fine o = IfReads o HasPlainConstants
 
-abbrev ReadsFine : Reader → Type 0
+abbrev pub ReadsFine : Reader → Type 0
 ReadsFine read = (names : Names) (v : Value) → IsOrdered v → Fine (read names v)
 
 -- leaves
@@ -163,21 +104,21 @@ named-fine named.Get e p h = h
 named-fine named.Ref e p h = h
 
 -- the parts of a value in order
-abbrev BothOrdered : Value × Value → Type 0
+abbrev pub BothOrdered : Value × Value → Type 0
 BothOrdered p = IsOrdered p.0 × IsOrdered p.1
 
-abbrev AllOrdered : Value × Value × Value → Type 0
+abbrev pub AllOrdered : Value × Value × Value → Type 0
 AllOrdered p = IsOrdered p.0 × IsOrdered p.1 × IsOrdered p.2
 
-pair-ordered : (v : Value) → IsOrdered v → IfSome (pair_in v) BothOrdered
+pub pair-ordered : (v : Value) → IsOrdered v → IfSome (pair_in v) BothOrdered
 pair-ordered (list a (part v (part w no_parts))) ordered = (ordered.0, ordered.1.0)
 pair-ordered _ ordered = tt
 
-triple-ordered : (v : Value) → IsOrdered v → IfSome (triple_in v) AllOrdered
+pub triple-ordered : (v : Value) → IsOrdered v → IfSome (triple_in v) AllOrdered
 triple-ordered (list a (part u (part v (part w no_parts)))) ordered = (ordered.0, ordered.1.0, ordered.1.1.0)
 triple-ordered _ ordered = tt
 
-items-ordered : (v : Value) → IsOrdered v → IfSome (items_in v) AreOrdered
+pub items-ordered : (v : Value) → IsOrdered v → IfSome (items_in v) AreOrdered
 items-ordered (list a ps) ordered = ordered
 items-ordered _ ordered = tt
 
@@ -225,13 +166,13 @@ triple_parts-fine read h triple.Choice names p ordered = choice_parts-fine read 
 triple_parts-fine read h triple.Binding names p ordered = binding_parts-fine read h names p ordered
 
 -- lists, and records that are made
-abbrev AllHave : List Expression → Type 0
+abbrev pub AllHave : List Expression → Type 0
 AllHave es = HavePlainConstants (expressions es)
 
 abbrev MembersHave : List (List ℕ × Expression) → Type 0
 MembersHave es = MembersHavePlainConstants (members es)
 
-items-fine : (read : Reader) → ReadsFine read → (names : Names) (i : ℕ) (ps : Items) → AreOrdered ps → IfReads (items_read read names i ps) AllHave
+pub items-fine : (read : Reader) → ReadsFine read → (names : Names) (i : ℕ) (ps : Items) → AreOrdered ps → IfReads (items_read read names i ps) AllHave
 items-fine read h names i no_parts ordered = tt
 items-fine read h names i (part v ps) ordered =
     made-fine (λ q. HasPlainConstants q.0 × AllHave q.1) AllHave _ _ (λ q fine. fine)
@@ -320,7 +261,7 @@ formed-fine lookup read h names v None fine = fine
 formed-fine lookup read h names v (Some formed) fine = keyed-fine lookup read h names formed fine
 
 -- with room for so many open expressions
-reader-fine : (lookup : Lookup) (room : ℕ) → ReadsFine (expr_read lookup room)
+pub reader-fine : (lookup : Lookup) (room : ℕ) → ReadsFine (expr_read lookup room)
 unfolding expr_read
 reader-fine lookup zero names v ordered = then-fine (FineForm v) HasPlainConstants (own_form v) _ (form-fine v ordered) (λ formed fine. tt)
 reader-fine lookup (suc room) names v ordered =

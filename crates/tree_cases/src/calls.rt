@@ -14,7 +14,7 @@ use patch_core::{Patches, read_patches};
 use pointer_core::Pointer;
 use snap_core::{Field, Ident, ModelNo, NodeNo, Snap, Txt};
 use std::alloc::Global;
-use tree_core::TreeError;
+use tree_core::{Target, TreeError};
 use type_core::Types;
 
 impl Session {
@@ -96,10 +96,12 @@ impl Session {
         let place = place_of(alloc, node, fields)?;
         let running = self.running(alloc, types, fields)?;
         let change = change_of(alloc, fields)?;
-        Ok(
-            self.tree
-                .write(alloc, types, running.as_slice(), &place, change)?,
-        )
+        let to = Target {
+            running: running.as_slice(),
+            place: &place,
+            named: None,
+        };
+        Ok(self.tree.write(alloc, types, &to, change)?)
     }
 
     fn move_marks(&mut self, alloc: Global, types: &Types, fields: &[Field]) -> Result<Snap, Fault>
