@@ -142,14 +142,14 @@ pub items-came : (t : Telling) (s : Scope) (e : Expression) (env : Env) (v : Val
 items-came t s e env v vs way h listed =
     let seen : Evaluates t answer_of (Ok v) (andthen (items_of s e env) (λ ys. gives (as_list ys))) way =
     part-alike t answer_of (Ok v) (items_evaluated s e env) _ way (items-alike s e env way.counted) h in
-    let as = is_seen as_list (items_of s e env) way.counted in
+    let other_run = is_seen as_list (items_of s e env) way.counted in
     let did : Did answer_of (Ok v) (andthen (items_of s e env) (λ ys. gives (as_list ys))) way = subst (λ r. Did answer_of r (andthen (items_of s e env) (λ ys. gives (as_list ys))) way) seen.told seen.did in
     record {
       halted = Ok vs;
       did = record {
-        outcome = answer-seen (items_of s e env way.counted).outcome v vs listed (sym as.outcome ∙ did.outcome);
-        counted = subst (λ n. way.counted_after ≡ way.counted + n) as.own did.counted;
-        ticks = rw as.cost at did.ticks;
+        outcome = answer-seen (items_of s e env way.counted).outcome v vs listed (sym other_run.outcome ∙ did.outcome);
+        counted = subst (λ n. way.counted_after ≡ way.counted + n) other_run.own did.counted;
+        ticks = rw other_run.cost at did.ticks;
       };
       told = refl;
     }
@@ -157,25 +157,25 @@ items-came t s e env v vs way h listed =
 pub items-ended : (t : Telling) (s : Scope) (e : Expression) (env : Env) (error : RunError) (way : Course) → Evaluates {T = Value} t answer_of (Err error) (items_evaluated s e env) way
     → Evaluates {T = List Value} t (λ xs. map answer_of xs) (Err error) (items_of s e env) way
 items-ended t s e env error way h =
-    let as = is_seen as_list (items_of s e env) way.counted in
+    let other_run = is_seen as_list (items_of s e env) way.counted in
     let other : Eval Answer = andthen (items_of s e env) (λ ys. gives (as_list ys)) in
     by_error error (part-alike {T = Value} t answer_of (Err error) (items_evaluated s e env) other way (items-alike s e env way.counted) h)
   where
     by_error : (x : RunError) → Evaluates {T = Value} t answer_of (Err x) (andthen (items_of s e env) (λ ys. gives (as_list ys))) way
         → Evaluates {T = List Value} t (λ xs. map answer_of xs) (Err x) (items_of s e env) way
     by_error errors.Memory k =
-        let as = is_seen as_list (items_of s e env) way.counted in
-        record { halted = Err halts.Memory; did = record { outcome = tt; counted = tt; ticks = rw as.cost at k.did.ticks }; told = refl }
+        let other_run = is_seen as_list (items_of s e env) way.counted in
+        record { halted = Err halts.Memory; did = record { outcome = tt; counted = tt; ticks = rw other_run.cost at k.did.ticks }; told = refl }
     by_error (errors.Refused r) k =
-        let as = is_seen as_list (items_of s e env) way.counted in
+        let other_run = is_seen as_list (items_of s e env) way.counted in
         let other : Eval Answer = andthen (items_of s e env) (λ ys. gives (as_list ys)) in
         let refused : (other way.counted).outcome ≡ Err (fault_of k.told.0) = subst (λ h. IsAnswered answer_of h (other way.counted).outcome) k.told.1 k.did.outcome in
         record {
           halted = Err (halts.Refused k.told.0);
           did = record {
-            outcome = refusal-seen as_list (items_of s e env way.counted).outcome (fault_of k.told.0) (sym as.outcome ∙ refused);
+            outcome = refusal-seen as_list (items_of s e env way.counted).outcome (fault_of k.told.0) (sym other_run.outcome ∙ refused);
             counted = tt;
-            ticks = rw as.cost at k.did.ticks;
+            ticks = rw other_run.cost at k.did.ticks;
           };
           told = (k.told.0, (refl, k.told.2));
         }

@@ -121,6 +121,7 @@ run-came {T} {A} seen r t run tried met p q tree counted ticks is = by_result r 
       counted = counted;
       ticks = let e = spent-last met (record { own = run.own; entered = run.entered }) in omega (arith, e, ticks);
     }
+
     by_result : (r : Result T RunError) → IsOutcome seen r (told t run.outcome) → Came seen r (came (told t run.outcome) (with_met run (state_at p tried met))) (spent met) p q
     by_result (Ok x) is = (is, stands)
     by_result (Err (errors.Refused e)) is = (is, stands)
@@ -137,8 +138,8 @@ parts-act {T} {A} seen r a tree eval n c x y h =
     let run : Run A = eval (scope_in a tree) 0 in
     record {
       came = λ tried met.
-        subst (λ (ran : Ran A). Came seen r ran (spent met) p q) (sym (evaluates-came behaving a.frame.now eval (state_at p tried met)))
-        (run-came seen r t run tried met p q refl refl h.did.ticks (outcome-told t seen r h.halted run.outcome h.told h.did.outcome));
+          subst (λ (ran : Ran A). Came seen r ran (spent met) p q) (sym (evaluates-came behaving a.frame.now eval (state_at p tried met)))
+          (run-came seen r t run tried met p q refl refl h.did.ticks (outcome-told t seen r h.halted run.outcome h.told h.did.outcome));
       back = kept-same (state tree) (state tree) refl;
       rises = omega arith;
     }

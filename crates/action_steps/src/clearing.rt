@@ -24,11 +24,7 @@ use tree_core::{Place, Target, TreeError, refuse};
 use view_engine::RunError;
 
 /// Takes each of some places out, one after the other.
-pub fn remove_all(
-    acting: &Acting<'_>,
-    places: &[Place],
-    tree: &mut Tree,
-) -> Result<(), RunError>
+pub fn remove_all(acting: &Acting<'_>, places: &[Place], tree: &mut Tree) -> Result<(), RunError>
     ensures { (counted steps : ℕ) → Acts (λ x. x) result (removes_all (acting_of acting.now) places.now)
         (point (state tree.old) counted steps) (point (state tree.new) counted steps) }
 {

@@ -24,12 +24,7 @@ pub struct Naming {
 }
 
 /// A property of a model, set.
-pub fn property_set(
-    alloc: Global,
-    n: NodeNo,
-    name: &Name,
-    x: Value,
-) -> Result<Naming, AllocError>
+pub fn property_set(alloc: Global, n: NodeNo, name: &Name, x: Value) -> Result<Naming, AllocError>
     ensures { IfOk result (λ w. naming_of w ≡ specs.property_set n name.now (answer_of x)) }
 {
     Ok(Naming {
@@ -41,12 +36,7 @@ pub fn property_set(
 }
 
 /// A key of a map, set or added.
-pub fn entry_put(
-    alloc: Global,
-    n: NodeNo,
-    key: &Value,
-    x: Value,
-) -> Result<Naming, AllocError>
+pub fn entry_put(alloc: Global, n: NodeNo, key: &Value, x: Value) -> Result<Naming, AllocError>
     ensures { IfOk result (λ w. naming_of w ≡ specs.entry_put n (answer_of key.now) (answer_of x)) }
 {
     Ok(Naming {
@@ -58,12 +48,7 @@ pub fn entry_put(
 }
 
 /// An item before the one at an index.
-pub fn item_inserted(
-    alloc: Global,
-    n: NodeNo,
-    key: &Value,
-    x: Value,
-) -> Result<Naming, AllocError>
+pub fn item_inserted(alloc: Global, n: NodeNo, key: &Value, x: Value) -> Result<Naming, AllocError>
     ensures { IfOk result (λ w. naming_of w ≡ specs.item_inserted n (answer_of key.now) (answer_of x)) }
 {
     Ok(Naming {
@@ -75,12 +60,7 @@ pub fn item_inserted(
 }
 
 /// The item at an index, set.
-pub fn item_replaced(
-    alloc: Global,
-    n: NodeNo,
-    key: &Value,
-    x: Value,
-) -> Result<Naming, AllocError>
+pub fn item_replaced(alloc: Global, n: NodeNo, key: &Value, x: Value) -> Result<Naming, AllocError>
     ensures { IfOk result (λ w. naming_of w ≡ specs.item_replaced n (answer_of key.now) (answer_of x)) }
 {
     Ok(Naming {
@@ -116,12 +96,7 @@ pub fn snapshot_applied(alloc: Global, n: NodeNo, x: Value) -> Naming
 }
 
 /// An item at the end of an array of this size. An end that no place can name is want of memory.
-pub fn item_pushed(
-    alloc: Global,
-    n: NodeNo,
-    x: Value,
-    size: usize,
-) -> Result<Naming, AllocError>
+pub fn item_pushed(alloc: Global, n: NodeNo, x: Value, size: usize) -> Result<Naming, AllocError>
     ensures { IfOk result (λ w. naming_of w ≡ specs.item_pushed n (answer_of x) size) }
 {
     let Ok(index) = u32::try_from(size) else {

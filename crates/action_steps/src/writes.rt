@@ -9,7 +9,7 @@ ghost use Rattle.action_steps.specs.Doing.{Acts, point};
 ghost use Rattle.action_steps.specs.Acting.{acting_of, env_of};
 
 use crate::acting::{Acting, node_in};
-use crate::clearing::{remove_all, removals};
+use crate::clearing::{removals, remove_all};
 use crate::naming::{
     entry_put, item_inserted, item_pushed, item_replaced, part_dropped, property_set,
     snapshot_applied,
