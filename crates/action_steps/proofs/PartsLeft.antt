@@ -21,7 +21,7 @@ use Rattle.view_engine.proofs.Doing.{did-alike}
 use Rattle.view_engine.proofs.Lists.{element, appended, appended-last, exprs_from}
 use Rattle.view_engine.proofs.Loops.{Point}
 use Rattle.action_steps.specs.Parts.{Evaluates}
-use Rattle.action_steps.proofs.Parts.{part-then, part-stop, part-gives, part-memory}
+use Rattle.action_steps.proofs.Evaluations.{part-then, part-stop, part-gives, part-memory}
 
 -- what comes to the same
 pub part-alike : {T A : Type 0} (t : Telling) (seen : T → A) (r : Result T RunError) (e f : Eval A) (way : Course) → Alike (e way.counted) (f way.counted)
