@@ -58,19 +58,19 @@ write-refused types target w s now frame errors.Memory e outcome told is leaves 
 -- One write, as an act.
 
 pub writes-refused : (frame : Path) (e : RunError) (outcome : Outcome Changed) (before after : Tree) → after ≡ before → RefusesIn frame e outcome → Writes (Err e) frame outcome before after
+unfolding writes
 writes-refused frame e outcome before after stays refuses = subst (λ (t : Tree). Writes (Err e) frame outcome before t) (sym stays) (by_error e refuses)
   where
     by_error : (x : RunError) → RefusesIn frame x outcome → Writes (Err x) frame outcome before before
-    unfolding writes
     by_error halts.Memory h change counted steps is =
         acts-memory (λ x. x) halts.Memory (writes frame change) (point before counted steps) (point before counted steps) refl (kept-same before before refl) (omega arith)
     by_error (halts.Refused r) h change counted steps is =
         let p : Point = point before counted steps in
         record {
           came = λ tried met.
-            let s : State = state_at p tried met in
-            let e : writes frame change s ≡ came (Err (refused_as r)) s = ap (changed_to s) (ap (in_frame frame) is ∙ h) in
-            subst (λ (ran : Ran (Unit {0})). Came {T = Unit {0}} (λ x. x) (Err (halts.Refused r)) ran (spent met) p p) (sym e) (refl, stands-still p tried met);
+              let s : State = state_at p tried met in
+              let e : writes frame change s ≡ came (Err (refused_as r)) s = ap (changed_to s) (ap (in_frame frame) is ∙ h) in
+              subst (λ (ran : Ran (Unit {0})). Came {T = Unit {0}} (λ x. x) (Err (halts.Refused r)) ran (spent met) p p) (sym e) (refl, stands-still p tried met);
           back = kept-same before before refl;
           rises = omega arith;
         }
@@ -82,9 +82,9 @@ writes-done frame outcome before after c done leads back change counted steps is
     let q : Point = point after counted steps in
     record {
       came = λ tried met.
-        let s : State = state_at p tried met in
-        let stands : Stands p q (spent met) (with_change c s) = record { tree = sym leads; counted = refl; ticks = omega arith } in
-        subst (λ (ran : Ran (Unit {0})). Came (λ x. x) (Ok tt) ran (spent met) p q) (sym (writes-came frame change s c (is ∙ done))) (refl, stands);
+          let s : State = state_at p tried met in
+          let stands : Stands p q (spent met) (with_change c s) = record { tree = sym leads; counted = refl; ticks = omega arith } in
+          subst (λ (ran : Ran (Unit {0})). Came (λ x. x) (Ok tt) ran (spent met) p q) (sym (writes-came frame change s c (is ∙ done))) (refl, stands);
       back = back;
       rises = omega arith;
     }
