@@ -1,5 +1,5 @@
 -- What is shown of a plain tree is plain.
-use Rattle.std.proofs.Common.{◌≡◌, List, [], ◌∷◌, Option, Some, None, Result, Ok, Err, IfOk, refl, sym, ap, subst, ◌∙◌}
+use Rattle.std.proofs.Common.{◌≡◌, List, [], ◌∷◌, Option, Some, None, Result, Ok, Err, IfOk, refl, subst}
 use Rattle.std.specs.Prelude.{ℕ, zero, suc, slice_get}
 use Rattle.std.specs.Option.{option_map, option_and_then}
 use Rattle.snap_core.specs.Value.{Value, IsPlain, ArePlain, ArePlainMembers}

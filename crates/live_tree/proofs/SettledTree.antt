@@ -8,13 +8,11 @@ use Rattle.type_table.specs.Table.{Catalog}
 use Rattle.edit_core.specs.Labelled.{Labelled, bare}
 use Rattle.edit_core.specs.Logged.{LoggedEdit, after_log, before_log, patch_of_logged}
 use Rattle.edit_core.specs.Plain.{IsShort}
-use Rattle.edit_core.specs.Numbers.{AreNumbered}
 use Rattle.tree_core.specs.Changed.{Changed}
 use Rattle.tree_core.specs.Settling.{Settling, settling_edits, settling_in, settled}
 use Rattle.tree_core.specs.State.{State, recorded, edits_of, patches_of}
 use Rattle.tree_core.specs.Recorded.{after_settling, GoesOn}
-use Rattle.tree_core.specs.Writing.{Tree}
-use Rattle.tree_reading.specs.Settled.{SettlingLeads, settled_value}
+use Rattle.tree_reading.specs.Settled.{SettlingLeads}
 use Rattle.tree_reading.proofs.SettlingLaws.{settling-leads}
 use Rattle.live_tree.specs.Inside.{IsWell}
 

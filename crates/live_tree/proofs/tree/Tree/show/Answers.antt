@@ -1,5 +1,3 @@
-use Rattle.std.proofs.Common.{subst}
-use Rattle.snap_core.specs.Value.{IsPlain}
 use Rattle.node_core.specs.View.{labelled}
 use Rattle.live_tree.proofs.PlainParts.{shown-plainly}
 use Rattle.live_tree.proofs.tree.Tree.show.Goals as goal
