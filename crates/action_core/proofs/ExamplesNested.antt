@@ -15,7 +15,7 @@ use Rattle.tree_core.specs.Outcome.{refuse}
 use Rattle.tree_core.specs.Recorded.{new_tree}
 use Rattle.tree_core.specs.Writing.{Tree}
 use Rattle.eval_core.specs.Answer.{Answer, node, several, no_answers, answer}
-use Rattle.action_core.specs.Giving.{given, sets}
+use Rattle.answer_writing.specs.Giving.{given, sets}
 use Rattle.action_core.proofs.Office.{type, model_no, number}
 
 -- 0 a text, 1 a card, 2 a board, 3 a row, 4 the rows

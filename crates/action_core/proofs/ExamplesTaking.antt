@@ -16,8 +16,8 @@ use Rattle.tree_core.specs.Outcome.{refuse}
 use Rattle.tree_core.specs.Reading.{path_to}
 use Rattle.tree_core.specs.Writing.{Tree}
 use Rattle.eval_core.specs.Answer.{Answer, Answers, plain, node, several, no_answers, answer}
-use Rattle.action_core.specs.Giving as specs
-use Rattle.action_core.specs.Giving.{Giving, sets, inserts}
+use Rattle.answer_writing.specs.Giving as specs
+use Rattle.answer_writing.specs.Giving.{Giving, sets, inserts}
 use Rattle.action_core.proofs.Office.{types, number, items, call, post, one_todo, two_todos}
 
 abbrev the : ℕ → Answer

@@ -18,7 +18,7 @@ use Rattle.eval_core.specs.Answer.{Answer}
 use Rattle.eval_core.specs.Pairing.{Anything}
 use Rattle.action_core.specs.Act.{State, Act, root_of, with_change}
 use Rattle.action_core.specs.Behaving.{Running, Callee, Acting, node_path, writes}
-use Rattle.action_core.specs.Giving.{removes}
+use Rattle.answer_writing.specs.Giving.{removes}
 use Rattle.action_core.specs.Keeping.{Keeping, Keeps, GivesFine}
 use Rattle.action_core.specs.Running.{writes_to, pushes, removes_all, clears}
 use Rattle.action_core.specs.Statements.{Naming, item_pushed, unsuited, given_at, named_written}

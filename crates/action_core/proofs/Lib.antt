@@ -10,5 +10,4 @@ pub mod Steps
 mod KeptWrites
 pub mod Kept
 mod GoingOn
-mod InTurn
 pub mod Composing

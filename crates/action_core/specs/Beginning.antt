@@ -24,7 +24,7 @@ use Rattle.eval_core.specs.Answer.{Answer, Answers, plain, node, no_answers, ans
 use Rattle.eval_core.specs.Asking.{bound_at}
 use Rattle.eval_core.specs.Scope.{Env}
 use Rattle.eval_core.specs.Sight.{Sight}
-use Rattle.action_core.specs.Taking.{plain_in}
+use Rattle.answer_writing.specs.Taking.{plain_in}
 use Rattle.action_core.specs.Behaving.{Behaving, Callee, node_path, sight_in}
 
 -- Arguments, each by the type of its parameter.

@@ -16,7 +16,7 @@ use Rattle.plain_answers.specs.EachExpression.{HoldsInBlock}
 use Rattle.action_core.specs.Act.{State, Ran, Act, root_of, with_change, with_met, taken_back}
 use Rattle.action_core.specs.Behaving.{Behaving, Callee, sight_in, most_statements}
 use Rattle.action_core.specs.Beginning.{arguments_bound}
-use Rattle.action_core.specs.Giving.{Giving, given, sets, inserts, removes}
+use Rattle.answer_writing.specs.Giving.{Giving, given, sets, inserts, removes}
 use Rattle.action_core.specs.Running.{items_read}
 
 -- A fact of each answer.

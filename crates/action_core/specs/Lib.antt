@@ -1,6 +1,3 @@
-pub mod Taking
-pub mod Giving
-pub mod Placing
 pub mod Act
 pub mod Behaving
 pub mod Statements

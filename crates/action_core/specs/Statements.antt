@@ -19,7 +19,7 @@ use Rattle.tree_core.specs.Outcome.{◌>>=◌, refuse, provided, or_refuse}
 use Rattle.tree_core.specs.Changed.{Changed}
 use Rattle.tree_core.specs.Writing.{Tree}
 use Rattle.eval_core.specs.Answer.{Answer, plain}
-use Rattle.action_core.specs.Giving.{Giving, given, sets, inserts, removes}
+use Rattle.answer_writing.specs.Giving.{Giving, given, sets, inserts, removes}
 use Rattle.action_core.specs.Behaving.{node_path}
 
 -- A write as a statement names it.

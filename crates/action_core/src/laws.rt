@@ -1,5 +1,4 @@
 ghost use Rattle.action_core.specs.Laws.{FailedAtomicsLeaveAll, RequestsGoOn};
-ghost use Rattle.action_core.specs.Placing.{NodesAreGivenInTurn};
 
 /// Where an action that an atomic middleware surrounds ends refused, the tree is as it was: its snapshot with all labels,
 /// and the edits that are kept.
@@ -10,9 +9,4 @@ pub fn failed_atomics_leave_all()
 /// What a request tried and met only grows, and no more statements are run than may be.
 pub fn requests_go_on()
     ensures { RequestsGoOn }
-{}
-
-/// An answer that holds nodes is judged in turn: its place, then its nodes, then the value that its type makes of it.
-pub fn nodes_are_given_in_turn()
-    ensures { NodesAreGivenInTurn }
 {}

@@ -1,8 +1,6 @@
-//! What actions do, over labelled snapshots: writing answers that hold nodes, running statements, and calling actions
-//! through their middleware. The crate is definitions and laws; it runs nothing.
+//! What actions do, over labelled snapshots: running statements, and calling actions through their middleware. The crate
+//! is definitions and laws; it runs nothing.
 //!
-//! - `specs/Taking`, `Giving`: what is taken of an answer that holds nodes, and writing it at a place.
-//! - `specs/Placing`: the rules of such a place by themselves; that it is written in turn is a law.
 //! - `specs/Act`: the state of a request, and how runs are put together.
 //! - `specs/Running`: what each statement does. Read this page first; `Behaving` and `Statements` are what it names.
 //! - `specs/Beginning`, `Layers`: what an action is refused for before it begins, and the middleware around it.
@@ -15,4 +13,4 @@
 
 mod laws;
 
-pub use laws::{failed_atomics_leave_all, nodes_are_given_in_turn, requests_go_on};
+pub use laws::{failed_atomics_leave_all, requests_go_on};

@@ -28,8 +28,8 @@ use Rattle.plain_answers.specs.Plainness.{IsPlainAnswer}
 use Rattle.action_core.specs.Behaving.{Behaving, Callee, sight_in}
 use Rattle.action_core.specs.Beginning.{Argument, as_given, to_be_found, gone, made_in, plain_argument, node_argument, node_at, value_argument, argument_of, parameter_target, Bound, bound_before, arguments_of, reached, all_reached, frame_of, arguments_bound}
 use Rattle.action_core.specs.Keeping.{AreFine, IsFineEnv}
-use Rattle.action_core.specs.Taking.{plain_in}
-use Rattle.action_laws.proofs.Plain.{value-plain}
+use Rattle.answer_writing.specs.Taking.{plain_in}
+use Rattle.answer_writing.proofs.PlainValues.{value-plain}
 
 abbrev IsPlainArgument : Argument → Type 0
 IsPlainArgument (as_given x) = IsPlainAnswer x

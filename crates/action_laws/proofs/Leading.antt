@@ -40,8 +40,8 @@ use Rattle.plain_views.proofs.PlainTrees.{sight-plain, trees-plain}
 use Rattle.action_core.specs.Act.{State, root_of}
 use Rattle.action_core.specs.Behaving.{Behaving}
 use Rattle.action_core.specs.Calling.{called}
-use Rattle.action_core.specs.Giving.{Giving}
-use Rattle.action_core.specs.Giving as giving
+use Rattle.answer_writing.specs.Giving.{Giving}
+use Rattle.answer_writing.specs.Giving as giving
 use Rattle.action_core.specs.Keeping.{Keeping, EachFine, AreFine, IsFineEnv, GivesFine, scope_of}
 use Rattle.action_core.specs.Running.{all_read, items_read}
 use Rattle.action_core.proofs.Kept.{called_kept}

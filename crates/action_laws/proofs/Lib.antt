@@ -1,4 +1,3 @@
-mod Plain
 pub mod Arguments
 pub mod Writes
 pub mod Leading

@@ -17,10 +17,10 @@ use Rattle.tree_core.specs.Writing.{Tree, Target, written, node_no}
 use Rattle.tree_laws.proofs.Writes.{comes}
 use Rattle.eval_core.specs.Answer.{Answer}
 use Rattle.plain_answers.specs.Plainness.{IsPlainAnswer}
-use Rattle.action_core.specs.Giving.{Giving, given, sets, inserts, removes, with_value, Site, aim_at, place_path, is_of_value, after_place, unless_fault, value_taken, site_of, nodes_given, answer_given}
+use Rattle.answer_writing.specs.Giving.{Giving, given, sets, inserts, removes, with_value, Site, aim_at, place_path, is_of_value, after_place, unless_fault, value_taken, site_of, nodes_given, answer_given}
 use Rattle.action_core.specs.Keeping.{GivesFine}
-use Rattle.action_core.specs.Taking.{Taking, plain_in, fault_in, answer_made}
-use Rattle.action_laws.proofs.Plain.{value-plain, made-plain}
+use Rattle.answer_writing.specs.Taking.{Taking, plain_in, fault_in, answer_made}
+use Rattle.answer_writing.proofs.PlainValues.{value-plain, made-plain}
 
 -- a plain value is written, with what the write makes of the tree
 pub record WritesValue (types : Catalog) (target : Target) (tree : Tree) (c : Changed) : Type 0 where

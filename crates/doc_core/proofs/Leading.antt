@@ -1,7 +1,9 @@
 -- A change leads on, step by step: what is written, and then settling.
-use Rattle.std.proofs.Common.{◌≡◌, ◌<◌, ◌^◌, List, [], ◌++◌, length, map, Ok, Err, refl, sym, ap, subst, ◌∙◌}
+use Rattle.std.proofs.Common.{◌≡◌, ◌<◌, ◌^◌, ℕ, List, [], ◌++◌, length, map, Ok, Err, refl, sym, ap, subst, ◌∙◌}
 use Rattle.std.specs.Prelude.{All}
-use Rattle.snap_core.specs.Value.{Value, IsPlain}
+use Rattle.snap_core.specs.Value.{Value, Items, IsPlain, ArePlain}
+use Rattle.snap_core.specs.declared.number.NodeNo.{NodeNo}
+use Rattle.pointer_core.specs.Path.{Path}
 use Rattle.patch_core.specs.Fits.{LeadsTo}
 use Rattle.patch_core.specs.Inverse.{back}
 use Rattle.patch_core.specs.Printing.{HasPlainValues}
@@ -9,6 +11,7 @@ use Rattle.patch_core.specs.declared.patch.Patch.{Patch}
 use Rattle.type_table.specs.Table.{Catalog}
 use Rattle.type_core.specs.Making.{Outcome}
 use Rattle.type_core.specs.Sound.{IsSound}
+use Rattle.model_syntax.specs.Shown.{ShownBehaviour}
 use Rattle.edit_core.specs.Labelled.{bare}
 use Rattle.edit_core.specs.Logged.{patch_of_logged}
 use Rattle.edit_core.specs.Typing.{label_of}
@@ -26,9 +29,17 @@ use Rattle.tree_laws.proofs.Settling.{settling-leads}
 use Rattle.tree_laws.proofs.SettlingSound.{settling-keeps}
 use Rattle.tree_laws.proofs.TreeRight.{lists-keep, writes-keep}
 use Rattle.tree_laws.proofs.Writes.{writes-lead}
+use Rattle.tree_laws.proofs.Writes as first
+use Rattle.action_core.specs.Act.{Ran, state_of}
+use Rattle.action_core.specs.Calling.{most_actions}
+use Rattle.action_laws.specs.Laws.{IsPlainBehaving, Leads}
+use Rattle.action_laws.specs.Schemas.{behaving_by}
+use Rattle.action_laws.proofs.Leading.{actions-lead}
+use Rattle.doc_core.specs.Acting.{Acted, acted_on, after_run, callee_given, node_pointed, run_of}
 use Rattle.doc_core.specs.Changing.{patched, replaced, root_written, whole_root}
 use Rattle.doc_core.specs.Laws.{IsSoundDocument, ChangesFully, ChangesLead}
 use Rattle.doc_core.proofs.Stages.{settled}
+use Rattle.doc_core.proofs.Acts.{plain-given, run-left}
 use Rattle.doc_core.proofs.Typed.{root-by}
 
 -- what was written, and what it is settled to
@@ -80,5 +91,15 @@ snapshot-leads types given before after document plain done =
     fully types before c.written after sound document.document.at_rest (writes-lead types sound before c.written document.sound writes)
     (writes-keep types sound before c.written document.sound writes) c.settles
 
+action-leads : (types : Catalog) (behaviours : List ShownBehaviour) (path : Path) (name : List ℕ) (args : Items) (before : State) (acted : Acted)
+    → IsPlainBehaving (behaving_by types behaviours) → IsSoundDocument types before → ArePlain args → acted_on types behaviours path name args before ≡ Ok acted
+    → ChangesFully types before acted.after
+action-leads types behaviours path name args before acted well document plain done =
+    let run : NodeNo → Ran (Unit {0}) = λ n. run_of types behaviours (callee_given n name args) before in
+    let c = first.comes (node_pointed types path name before.tree) (λ n. after_run types (run n)) acted done in
+    let led : Leads types before (run c.from).state.tree =
+    actions-lead (behaving_by types behaviours) well most_actions (record { nodes = []; frame = [] }) (callee_given c.from name args) (plain-given args plain) (state_of before) document.sound in
+    fully types before (run c.from).state.tree acted.after document.document.sound document.document.at_rest led.on led.sound (run-left types (run c.from) acted c.next)
+
 pub changes-lead : ChangesLead
-changes-lead = record { by_patches = patches-lead; by_snapshot = snapshot-leads }
+changes-lead = record { by_patches = patches-lead; by_snapshot = snapshot-leads; by_action = action-leads }

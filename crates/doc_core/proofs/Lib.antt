@@ -3,3 +3,7 @@ pub mod Stages
 pub mod Typed
 pub mod Leading
 pub mod Viewed
+pub mod ActionTyped
+pub mod Acts
+pub mod ActStages
+pub mod Atomic

@@ -1,12 +1,15 @@
 -- Staging: what a request does to a document can be kept or taken back.
-use Rattle.std.specs.Prelude.{◌≡◌, ℕ, ◌+◌, ◌≤◌, None, Result, Ok, Err}
+use Rattle.std.specs.Prelude.{◌≡◌, ℕ, ◌+◌, ◌≤◌, Option, Some, None, Result, Ok, Err}
 use Rattle.std.specs.Option.{option_map}
+use Rattle.pointer_core.specs.declared.refusal.Refusal.{Refusal}
 use Rattle.type_table.specs.Table.{Catalog}
 use Rattle.type_core.specs.Making.{Outcome}
 use Rattle.type_core.specs.Made.{refused_as}
 use Rattle.tree_core.specs.Recorded.{IsTreeOf, after_settling}
 use Rattle.tree_core.specs.State.{State, patches_of}
 use Rattle.live_tree.specs.Laws.{CanBeTakenBack}
+use Rattle.action_core.specs.Act.{Ran}
+use Rattle.action_steps.specs.Doing.{spent}
 use Rattle.doc_core.specs.Acting.{Acted}
 use Rattle.doc_core.specs.declared.error.DocError.{DocError}
 use Rattle.doc_core.specs.declared.error.DocError.TheVariants.{Memory, Refused}
@@ -42,6 +45,21 @@ pub record IsStagedAfter (types : Catalog) (before after : State) : Type 0 where
   pub typed : IsTreeOf types after
 
 -- For private clauses.
+
+-- what a run came to that is refused, or isn't
+abbrev pub outcome_of : Option Refusal → Outcome (Unit {0})
+outcome_of None = Ok tt
+outcome_of (Some r) = Err (refused_as r)
+
+-- the run came to this, and left the tree; or memory ran out
+abbrev pub RunsTo : Result (Option Refusal) DocError → Ran (Unit {0}) → State → Type 0
+RunsTo (Ok fault) ran now = (ran.outcome ≡ outcome_of fault) × (ran.state.tree ≡ now)
+RunsTo (Err e) ran now = e ≡ Memory
+
+-- it took no more steps than the expressions that it met cost
+abbrev pub CostsOf : Result (Option Refusal) DocError → Ran (Unit {0}) → ℕ → ℕ → Type 0
+CostsOf (Ok fault) ran before after = after ≤ before + spent ran.state.met
+CostsOf (Err e) ran before after = Unit {0}
 
 -- a write left what the outcome says, or it is the outcome's refusal, want of memory aside
 abbrev pub Leaves : Result (Unit {0}) DocError → Outcome State → State → Type 0

@@ -29,4 +29,4 @@ mod viewing;
 pub use creating::try_value;
 pub use document::{Document, Staged};
 pub use error::DocError;
-pub use laws::changes_lead;
+pub use laws::{atomics_keep_all_or_nothing, changes_lead};

@@ -92,13 +92,8 @@ fn write_root(tree: &mut Tree, alloc: Global, types: &Types, given: &Snap) -> Re
     Ok(())
 }
 
-// Settles what was written and tells all patches. After an error the tree is as at the mark.
-pub(crate) fn settle(
-    tree: &mut Tree,
-    alloc: Global,
-    types: &Types,
-    mark: Mark,
-) -> Result<Staged, DocError>
+/// Settles what was written and tells all patches. After an error the tree is as at the mark.
+pub fn settle(tree: &mut Tree, alloc: Global, types: &Types, mark: Mark) -> Result<Staged, DocError>
     ensures settled { IfOk result (λ staged. Settles types.now (state tree.old) (state tree.new) staged) }
     ensures memory { IfErr result (λ error. error ≡ DocError.Memory) }
     ensures kept { OnOk result (CanBeTakenBack (state tree.old) (state tree.new)) }

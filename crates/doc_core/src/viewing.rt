@@ -41,8 +41,8 @@ impl Document {
     }
 }
 
-// The refusal of a name that is no view's of the node at a place.
-fn unknown(alloc: Global, path: &Pointer, name: &str) -> Result<DocError, AllocError>
+/// The refusal of a name that nothing of the node at a place has.
+pub fn unknown(alloc: Global, path: &Pointer, name: &str) -> Result<DocError, AllocError>
     ensures { IfOk result (λ error. error ≡ DocError.Refused (record { path = path.now ++ name.now ∷ []; rule = Rule.Unknown })) }
 {
     let mut path = path.clone_in()?;

@@ -3,7 +3,7 @@ use Rattle.std.specs.Prelude.{◌≡◌, ℕ, zero, suc, List, [], ◌∷◌, �
 use Rattle.std.specs.List.{fold}
 use Rattle.model_syntax.specs.Shown.{behaviour_shown, IsInOrder}
 use Rattle.model_syntax.specs.declared.behaviour.Behaviour.{Behaviour}
-use Rattle.expr_core.specs.Plain.{HavePlainConstants}
+use Rattle.expr_core.specs.Plain.{HavePlainConstants, HavePlainActions, HavePlainConditions}
 use Rattle.expr_core.specs.declared.numbering.Place.{Place}
 use Rattle.expr_core.specs.declared.numbering.Numbering.{Numbering}
 
@@ -20,9 +20,11 @@ added n count = record { starts = n.starts ++ length n.places ∷ []; places = n
 abbrev pub numbering_of : {A : Type 0} → List (List A) → Numbering
 numbering_of lists = fold (λ n parts. added n (length parts)) (record { starts = []; places = [] }) lists
 
--- the names of each model are in order, the constants in views are plain, and the views and the actions of all models are numbered
+-- the names of each model are in order, the constants in views, actions and conditions are plain, and the views and the actions of all models are numbered
 pub record IsIndexed (behaviours : List Behaviour) (of_views of_actions : Numbering) : Type 0 where
   pub ordered : All (λ b. IsInOrder (behaviour_shown b)) behaviours
   pub plain : HavePlainConstants (map (λ b. (behaviour_shown b).views) behaviours)
+  pub plain_actions : HavePlainActions (map behaviour_shown behaviours)
+  pub plain_conditions : HavePlainConditions (map behaviour_shown behaviours)
   pub views : of_views ≡ numbering_of (map (λ b. (behaviour_shown b).views) behaviours)
   pub actions : of_actions ≡ numbering_of (map (λ b. (behaviour_shown b).actions) behaviours)

@@ -6,8 +6,8 @@ ghost use Rattle.expr_syntax.specs.Shown.{shown};
 ghost use Rattle.expr_syntax.specs.ShownStatements.{block_shown};
 ghost use Rattle.model_syntax.specs.Shown.{IsInOrder, behaviour_shown, view_shown, action_shown, middleware_shown};
 ghost use Rattle.expr_core.specs.Numbers.{parts_of};
-ghost use Rattle.expr_core.specs.Plain.{HavePlainConstants};
-ghost use Rattle.expr_core.specs.Schema.{views_of, view_count, view_at, view_no, actions_of, action_count, action_at, action_no, middleware_of};
+ghost use Rattle.expr_core.specs.Plain.{HavePlainConstants, HavePlainActions, HavePlainConditions};
+ghost use Rattle.expr_core.specs.Schema.{behaviours_shown, views_of, view_count, view_at, view_no, actions_of, action_count, action_at, action_no, middleware_of};
 
 use crate::named::position;
 use crate::numbering::{Numbering, Place};
@@ -57,6 +57,8 @@ impl Schema {
     ) -> Result<Schema, AllocError>
         requires ordered { All (λ b. IsInOrder (behaviour_shown b)) behaviours }
         requires plain { HavePlainConstants (map (λ b. (behaviour_shown b).views) behaviours) }
+        requires plain_actions { HavePlainActions (map behaviour_shown behaviours) }
+        requires plain_conditions { HavePlainConditions (map behaviour_shown behaviours) }
         ensures { Gives result (record { types = types; history = history; behaviours = behaviours }) }
     {
         let alloc = behaviours.allocator();
@@ -132,9 +134,11 @@ impl Schema {
         ensures number { result ≡ action_no self.now m name.now }
         ensures known { IfSome result (λ a. a.0 < action_count self.now) }
         ensures named { IfSome result (λ a. option_map (λ b. b.name) (action_at self.now a) ≡ Some name.now) }
+        ensures plain { HavePlainActions (behaviours_shown self.now) }
     {
+        let actions = &self.actions;
         let at = position(self.own_actions(m), name)?;
-        Some(ActionNo(self.actions.number(Place { model: m.0, at })))
+        Some(ActionNo(actions.number(Place { model: m.0, at })))
     }
 
     /// The parameters of an action, in order.
@@ -166,7 +170,8 @@ impl Schema {
 
     /// What surrounds actions on a model's nodes and below them, as it was declared; nothing where there is no such model.
     pub fn middleware(&self, m: ModelNo) -> &[Middleware]
-        ensures { map middleware_shown result.now ≡ middleware_of self.now m }
+        ensures is { map middleware_shown result.now ≡ middleware_of self.now m }
+        ensures plain { HavePlainConditions (behaviours_shown self.now) }
     {
         match self.behaviours.get(m.0) {
             Some(behaviour) => behaviour.middleware.as_slice(),

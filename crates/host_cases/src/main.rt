@@ -32,6 +32,23 @@ const TABLES: &[&str] = &[
     "sequences.cases",
     "views.cases",
     "view_sequences.cases",
+    "actions_office.cases",
+    "actions_bodies.cases",
+    "actions_statements.cases",
+    "actions_writes.cases",
+    "actions_items.cases",
+    "actions_protected.cases",
+    "actions_nodes.cases",
+    "actions_dead.cases",
+    "actions_arguments.cases",
+    "actions_calls.cases",
+    "actions_guards.cases",
+    "actions_atomic.cases",
+    "actions_kept.cases",
+    "actions_limits.cases",
+    "actions_large.cases",
+    "action_sequences.cases",
+    "action_mixes.cases",
 ];
 
 /// How many bytes a read takes at most, where a case is run with all of these.

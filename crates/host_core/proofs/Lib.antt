@@ -7,6 +7,9 @@ pub mod Kept
 pub mod Pointing
 pub mod Replying
 pub mod Viewing
+pub mod Called
+pub mod Spelled
+pub mod Acted
 pub mod Hosting
 pub mod OneDocument
 pub mod SoundChanges

@@ -9,10 +9,10 @@ use Rattle.edit_core.specs.Labelled.{bare}
 use Rattle.tree_core.specs.State.{State}
 use Rattle.doc_core.specs.Changing.{created}
 use Rattle.http_front.specs.Reply.{Reply}
-use Rattle.route_core.specs.Ask.{Ask, try, list, create, discard, show, replace, change, resolve, view, Asked, unknown, wrong, well, asked_by}
+use Rattle.route_core.specs.Ask.{Ask, try, list, create, discard, show, replace, change, resolve, act, view, Asked, unknown, wrong, well, asked_by}
 use Rattle.host_replies.specs.Replies.{rule_reply, removed_reply}
 use Rattle.host_core.specs.Answering.{Done}
-use Rattle.host_core.specs.Asking.{Visit, Answer, unchanged, doc_made, doc_read, creating, discarding, after_done, On, Shows, Resolves, Views, Replaces, Changes, AnswersAsk, AnswersAsked}
+use Rattle.host_core.specs.Asking.{Visit, Answer, unchanged, doc_made, doc_read, creating, discarding, after_done, On, Shows, Resolves, Views, Replaces, Changes, Acts, AnswersAsk, AnswersAsked}
 use Rattle.host_core.specs.Docs.{Doc, Docs, AreNamed, are_full, find, with_doc, with_snapshot, without}
 use Rattle.host_core.specs.Laws.{NamesAscend, OthersStay, RepliesAreOwn, Alike, named_in, name_asked}
 use Rattle.host_core.specs.Reading.{Read, value_in}
@@ -77,6 +77,7 @@ ask-named visit (show name) docs answer named on = on-holds AreNamed name docs (
 ask-named visit (replace name) docs answer named on = on-holds AreNamed name docs (Replaces visit) answer on named (λ v. subst AreAscending (sym (names-with_snapshot name v docs)) named)
 ask-named visit (change name) docs answer named on = on-holds AreNamed name docs (Changes visit) answer on named (λ v. subst AreAscending (sym (names-with_snapshot name v docs)) named)
 ask-named visit (resolve name) docs answer named on = on-holds AreNamed name docs (Resolves visit) answer on named (λ v. subst AreAscending (sym (names-with_snapshot name v docs)) named)
+ask-named visit (act name) docs answer named on = on-holds AreNamed name docs (Acts visit) answer on named (λ v. subst AreAscending (sym (names-with_snapshot name v docs)) named)
 ask-named visit (view name one) docs answer named on = on-holds AreNamed name docs (Views visit one) answer on named (λ v. subst AreAscending (sym (names-with_snapshot name v docs)) named)
 
 asked-named : (visit : Visit) (asked : Asked) (docs : Docs) (answer : Answer) → AreNamed docs → AnswersAsked visit asked docs answer → AreNamed answer.docs
@@ -112,6 +113,8 @@ ask-others visit (change name) docs answer other on apart =
     on-holds (Same other docs) name docs (Changes visit) answer on refl (λ v. find-with_snapshot-other name other v docs (apart-names name other apart))
 ask-others visit (resolve name) docs answer other on apart =
     on-holds (Same other docs) name docs (Resolves visit) answer on refl (λ v. find-with_snapshot-other name other v docs (apart-names name other apart))
+ask-others visit (act name) docs answer other on apart =
+    on-holds (Same other docs) name docs (Acts visit) answer on refl (λ v. find-with_snapshot-other name other v docs (apart-names name other apart))
 ask-others visit (view name one) docs answer other on apart =
     on-holds (Same other docs) name docs (Views visit one) answer on refl (λ v. find-with_snapshot-other name other v docs (apart-names name other apart))
 
@@ -214,6 +217,8 @@ module _ (name : List ℕ) (docs others : Docs) (same : find name others ≡ fin
       let P : List ℕ → Type 0 = λ m. On m docs (Changes visit) answer → Own answer (On m others (Changes visit)) in subst P (sym (name-of n on)) (on-own (Changes visit) answer) is
   ask-own visit (resolve n) answer on named named2 full full2 is =
       let P : List ℕ → Type 0 = λ m. On m docs (Resolves visit) answer → Own answer (On m others (Resolves visit)) in subst P (sym (name-of n on)) (on-own (Resolves visit) answer) is
+  ask-own visit (act n) answer on named named2 full full2 is =
+      let P : List ℕ → Type 0 = λ m. On m docs (Acts visit) answer → Own answer (On m others (Acts visit)) in subst P (sym (name-of n on)) (on-own (Acts visit) answer) is
   ask-own visit (view n one) answer on named named2 full full2 is =
       let P : List ℕ → Type 0 = λ m. On m docs (Views visit one) answer → Own answer (On m others (Views visit one)) in subst P (sym (name-of n on)) (on-own (Views visit one) answer) is
 

@@ -21,6 +21,12 @@ pub done-by : (close : Bool) (Does : Done → Type 0) (done : Done) (result : Re
 done-by close Does done (Ok bytes) snapshot does h same = (done, does, h, same)
 done-by close Does done (Err e) snapshot does h same = tt
 
+-- what a request came to, told in another way
+pub done-as : (close : Bool) (Does More : Done → Type 0) (result : Result (List ℕ) AllocError) (snapshot : Value) → ((done : Done) → Does done → More done)
+    → IfOk result (λ bytes. IsDone close Does bytes snapshot) → IfOk result (λ bytes. IsDone close More bytes snapshot)
+done-as close Does More (Ok bytes) snapshot more (done, does, is, same) = (done, more done does, is, same)
+done-as close Does More (Err e) snapshot more done = tt
+
 -- a reply once a change is kept
 pub kept-by : (close : Bool) (Does : Done → Type 0) (done : Done) (result : Result (List ℕ) AllocError) (snapshot : Value) → Does done
     → IfOk result (λ bytes. IsKept close done bytes snapshot) → IfOk result (λ bytes. IsDone close Does bytes snapshot)

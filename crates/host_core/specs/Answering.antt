@@ -1,5 +1,5 @@
 -- What requests on one document come to: a reply, and the snapshot after it.
-use Rattle.std.specs.Prelude.{ℕ, List, Option, Ok, Err}
+use Rattle.std.specs.Prelude.{ℕ, List, Option, Some, None, Ok, Err}
 use Rattle.snap_core.specs.Value.{Value}
 use Rattle.pointer_core.specs.Path.{Path}
 use Rattle.patch_core.specs.declared.patch.Patch.{Patch}
@@ -8,11 +8,13 @@ use Rattle.type_core.specs.Making.{Outcome, Refused}
 use Rattle.edit_core.specs.Labelled.{bare}
 use Rattle.tree_core.specs.Asking.{led_from, shown}
 use Rattle.tree_core.specs.State.{State, patches_of}
-use Rattle.model_syntax.specs.Shown.{ShownView}
+use Rattle.model_syntax.specs.Shown.{ShownView, ShownBehaviour}
+use Rattle.doc_core.specs.Acting.{Acted, acted_on}
 use Rattle.doc_core.specs.Changing.{patched, replaced, tried}
 use Rattle.doc_core.specs.Viewing.{viewed}
 use Rattle.http_front.specs.Reply.{Reply}
-use Rattle.host_replies.specs.Replies.{place_reply, snapshot_reply, node_reply, answer_reply, change_reply}
+use Rattle.host_replies.specs.Replies.{place_reply, snapshot_reply, node_reply, answer_reply, change_reply, refused_change_reply}
+use Rattle.host_core.specs.Calling.{Call}
 use Rattle.host_core.specs.Reading.{Read}
 
 -- a reply, and the document's snapshot after it
@@ -73,3 +75,17 @@ patching types s (Err reply) = stays s reply
 abbrev pub replacing : Catalog → State → Read Value → Done
 replacing types s (Ok v) = change_done s (replaced types v s)
 replacing types s (Err reply) = stays s reply
+
+-- the patches that stay, and beside them the refusal of an action that left them
+abbrev pub acted_reply : Option Refused → List Patch → Reply
+acted_reply None patches = change_reply patches
+acted_reply (Some refusal) patches = refused_change_reply refusal.rule refusal.path patches
+
+-- an action with its patches, refused or not, or a refusal that leaves all as it is
+abbrev pub act_done : State → Outcome Acted → Done
+act_done s (Ok acted) = record { reply = acted_reply acted.fault (patches_of acted.after); snapshot = bare acted.after.tree }
+act_done s (Err refusal) = stays s (refusal_reply refusal)
+
+abbrev pub acting : Catalog → List ShownBehaviour → State → Read Call → Done
+acting types behaviours s (Ok call) = act_done s (acted_on types behaviours call.path call.name call.given s)
+acting types behaviours s (Err reply) = stays s reply

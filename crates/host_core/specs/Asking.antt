@@ -14,9 +14,10 @@ use Rattle.doc_core.specs.Changing.{created}
 use Rattle.doc_core.specs.Documents.{IsCopy}
 use Rattle.http_front.specs.Reply.{Reply}
 use Rattle.http_front.specs.Request.{Request}
-use Rattle.route_core.specs.Ask.{Ask, try, list, create, discard, show, replace, change, resolve, view, Asked, unknown, wrong, well, asked_by}
+use Rattle.route_core.specs.Ask.{Ask, try, list, create, discard, show, replace, change, resolve, act, view, Asked, unknown, wrong, well, asked_by}
 use Rattle.host_replies.specs.Replies.{rule_reply, method_reply, snapshot_reply, names_reply, removed_reply}
-use Rattle.host_core.specs.Answering.{Done, refusal_reply, stays, trying, showing, resolving, viewing, patching, replacing}
+use Rattle.host_core.specs.Answering.{Done, refusal_reply, stays, trying, showing, resolving, viewing, patching, replacing, acting}
+use Rattle.host_core.specs.Calling.{Call, Calls}
 use Rattle.host_core.specs.Docs.{Docs, names_of, find, with_snapshot, with_doc, without, are_full}
 use Rattle.host_core.specs.Reading.{Read, Points, value_in, Lists}
 
@@ -86,6 +87,11 @@ Changes visit snapshot done =
     (s : State) × IsCopy visit.types snapshot s
     × (patches : Read (List Patch)) × Lists visit.request.body patches × (done ≡ patching visit.types s patches)
 
+abbrev pub Acts : Visit → Value → Done → Type 0
+Acts visit snapshot done =
+    (s : State) × IsCopy visit.types snapshot s
+    × (call : Read Call) × Calls visit.request.body call × (done ≡ acting visit.types visit.behaviours s call)
+
 -- a document after a request on it
 abbrev pub after_done : List ℕ → Docs → Done → Answer
 after_done name docs done = record { reply = done.reply; docs = with_snapshot name done.snapshot docs }
@@ -105,6 +111,7 @@ AnswersAsk visit (show name) docs answer = On name docs (Shows visit) answer
 AnswersAsk visit (replace name) docs answer = On name docs (Replaces visit) answer
 AnswersAsk visit (change name) docs answer = On name docs (Changes visit) answer
 AnswersAsk visit (resolve name) docs answer = On name docs (Resolves visit) answer
+AnswersAsk visit (act name) docs answer = On name docs (Acts visit) answer
 AnswersAsk visit (view name one) docs answer = On name docs (Views visit one) answer
 
 -- a request: its path is judged first, with a document's name in it, then its method, and then what it asks for

@@ -7,6 +7,7 @@ use Rattle.snap_core.specs.Unview.{snap_of}
 use Rattle.snap_core.specs.Value.{Value}
 use Rattle.type_table.specs.Table.{Catalog}
 use Rattle.edit_core.specs.Labelled.{bare}
+use Rattle.tree_core.specs.State.{State}
 use Rattle.live_tree.specs.Contents.{Contents, state}
 use Rattle.http_front.specs.Reply.{Reply, printed}
 use Rattle.http_front.specs.Request as request
@@ -14,8 +15,9 @@ use Rattle.expr_core.specs.Schema.{behaviours_shown}
 use Rattle.doc_core.specs.Documents.{IsDocument}
 use Rattle.host_core.specs.declared.held.Held.{Held}
 use Rattle.host_core.specs.declared.visit.Visit as declared
-use Rattle.host_core.specs.Answering.{Done}
+use Rattle.host_core.specs.Answering.{Done, acting}
 use Rattle.host_core.specs.Asking.{Visit, Answer}
+use Rattle.host_core.specs.Calling.{Call, CallsIn}
 use Rattle.host_core.specs.Docs.{Doc, Docs, AreNamed}
 use Rattle.host_core.specs.Host.{Shown}
 use Rattle.host_core.specs.Reading.{Read}
@@ -61,6 +63,10 @@ closes visit = visit.request.now.close
 abbrev pub IsRead : {T A : Type 0} → Bool → (T → A) → (Read A → Type 0) → Result T (List ℕ) → Type 0
 IsRead close seen P (Ok given) = P (Ok (seen given))
 IsRead close seen P (Err bytes) = (reply : Reply) × P (Err reply) × (bytes ≡ printed close reply)
+
+-- the action that a body's value calls, on a document
+abbrev pub ActsIn : Visit → Read Value → State → Done → Type 0
+ActsIn visit given s done = (call : Read Call) × CallsIn given call × (done ≡ acting visit.types visit.behaviours s call)
 
 -- the bytes of a reply on a document, and what it shows after it
 abbrev pub IsDone : Bool → (Done → Type 0) → List ℕ → Value → Type 0

@@ -1,6 +1,6 @@
 -- What holds of every request to a host.
 use Rattle.std.specs.Prelude.{◌≡◌, ◌≢◌, ℕ, List, false, Option, Some, None}
-use Rattle.route_core.specs.Ask.{Ask, try, list, create, discard, show, replace, change, resolve, view, Asked, unknown, wrong, well, asked_by}
+use Rattle.route_core.specs.Ask.{Ask, try, list, create, discard, show, replace, change, resolve, act, view, Asked, unknown, wrong, well, asked_by}
 use Rattle.host_core.specs.Asking.{Visit, Answer, Steps}
 use Rattle.host_core.specs.Docs.{Docs, AreNamed, are_full, find}
 
@@ -14,6 +14,7 @@ named_in (show name) = Some name
 named_in (replace name) = Some name
 named_in (change name) = Some name
 named_in (resolve name) = Some name
+named_in (act name) = Some name
 named_in (view name one) = Some name
 
 abbrev pub name_asked : Asked → Option (List ℕ)

@@ -1,5 +1,6 @@
 pub mod Answering
 pub mod Asking
+pub mod Calling
 pub mod Docs
 pub mod Host
 pub mod Inside

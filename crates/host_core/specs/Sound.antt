@@ -1,15 +1,22 @@
 -- What changes tell of sound documents.
-use Rattle.std.specs.Prelude.{◌≡◌, ◌<◌, ◌^◌, ◌⊎◌, List, length, Ok}
+use Rattle.std.specs.Prelude.{◌≡◌, ◌<◌, ◌^◌, ◌⊎◌, List, length, Option, Ok}
 use Rattle.snap_core.specs.Value.{Value, IsPlain}
 use Rattle.patch_core.specs.Fits.{LeadsTo}
 use Rattle.patch_core.specs.Inverse.{back}
 use Rattle.patch_core.specs.declared.patch.Patch.{Patch}
 use Rattle.type_table.specs.Table.{Catalog}
+use Rattle.type_core.specs.Making.{Refused}
+use Rattle.model_syntax.specs.Shown.{ShownBehaviour}
 use Rattle.tree_core.specs.Recorded.{IsSoundValue}
-use Rattle.host_replies.specs.Replies.{change_reply}
-use Rattle.host_core.specs.Answering.{Done}
-use Rattle.host_core.specs.Asking.{Visit, Changes, Replaces}
+use Rattle.action_laws.specs.Laws.{IsPlainBehaving}
+use Rattle.action_laws.specs.Schemas.{behaving_by}
+use Rattle.host_core.specs.Answering.{Done, acted_reply}
+use Rattle.host_core.specs.Asking.{Visit, Acts, Changes, Replaces}
 use Rattle.host_core.specs.Reading.{Lists}
+
+-- a schema whose types have no fault, and whose views and actions have plain constants
+abbrev pub IsPlainSchema : Catalog → List ShownBehaviour → Type 0
+IsPlainSchema types behaviours = IsPlainBehaving (behaving_by types behaviours)
 
 -- a snapshot that a document can show: the root's model makes it of itself, and no identifier stands twice in it
 pub record IsSoundSnapshot (types : Catalog) (v : Value) : Type 0 where
@@ -17,10 +24,11 @@ pub record IsSoundSnapshot (types : Catalog) (v : Value) : Type 0 where
   pub value : IsSoundValue types v
 
 -- the reply holds patches that fit in turn and lead from the snapshot before to the one after, and their inverses, last first,
--- lead back
+-- lead back; beside them it may hold the refusal of an action that left them
 pub record TellsChange (before : Value) (done : Done) : Type 0 where
   pub patches : List Patch
-  pub reply : done.reply ≡ change_reply patches
+  pub fault : Option Refused
+  pub reply : done.reply ≡ acted_reply fault patches
   pub leads : LeadsTo patches before done.snapshot
   pub leads_back : LeadsTo (back patches) done.snapshot before
 
@@ -28,10 +36,13 @@ pub record TellsChange (before : Value) (done : Done) : Type 0 where
 abbrev pub StaysSound : Catalog → Value → Done → Type 0
 StaysSound types before done = IsSoundSnapshot types done.snapshot × ((done.snapshot ≡ before) ⊎ TellsChange before done)
 
--- so it is after a snapshot that is put in the place of a document's own, and after patches, as many as a list of them can hold
+-- so it is after a snapshot that is put in the place of a document's own, after patches, as many as a list of them can hold, and
+-- after an action of a plain schema, refused or not
 pub record ChangesTell : Type 0 where
   pub by_snapshot : (visit : Visit) (snapshot : Value) (done : Done) → IsSoundSnapshot visit.types snapshot → Replaces visit snapshot done
       → StaysSound visit.types snapshot done
   pub by_patches : (visit : Visit) (snapshot : Value) (done : Done) → IsSoundSnapshot visit.types snapshot
       → ((patches : List Patch) → Lists visit.request.body (Ok patches) → length patches < 2 ^ 31) → Changes visit snapshot done
       → StaysSound visit.types snapshot done
+  pub by_action : (visit : Visit) (snapshot : Value) (done : Done) → IsPlainSchema visit.types visit.behaviours
+      → IsSoundSnapshot visit.types snapshot → Acts visit snapshot done → StaysSound visit.types snapshot done

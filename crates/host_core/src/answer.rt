@@ -4,11 +4,12 @@ ghost use Rattle.http_front.specs.Reply.{printed};
 ghost use Rattle.route_core.specs.Ask.{asked_by, seen, seen_ask};
 ghost use Rattle.host_replies.specs.Replies as replies;
 ghost use Rattle.host_core.specs.Answering.{trying};
-ghost use Rattle.host_core.specs.Asking.{AnswersAsk, AnswersAsked, Changes, On, Replaces, Resolves, Shows, Steps, Views};
+ghost use Rattle.host_core.specs.Asking.{Acts, AnswersAsk, AnswersAsked, Changes, On, Replaces, Resolves, Shows, Steps, Views};
 ghost use Rattle.host_core.specs.Docs.{names_of};
 ghost use Rattle.host_core.specs.Inside.{AreHeld, IsAnswered, closes, held_docs, visit_of};
 ghost use Rattle.host_core.specs.Reading as reading;
 
+use crate::acting::act;
 use crate::creating::{create, discard};
 use crate::document::{ask_view, change, replace, resolve, show, show_answer};
 use crate::held::{Held, position};
@@ -56,6 +57,7 @@ fn answer_ask(visit: &Visit<'_>, ask: Ask<'_>, docs: &mut Vec<Held>) -> Result<B
         Ask::Replace(name) => replace_named(visit, docs, name),
         Ask::Change(name) => change_named(visit, docs, name),
         Ask::Resolve(name) => resolve_named(visit, docs, name),
+        Ask::Act(name) => act_named(visit, docs, name),
         Ask::View(name, one) => view_named(visit, docs, name, one),
     }
 }
@@ -143,6 +145,19 @@ fn replace_named(visit: &Visit<'_>, docs: &mut Vec<Held>, name: &str) -> Result<
 {
     match position(docs, name) {
         Some(at) => replace(visit, &mut docs[at].document),
+        None => unknown(visit),
+    }
+}
+
+fn act_named(visit: &Visit<'_>, docs: &mut Vec<Held>, name: &str) -> Result<Bytes, AllocError>
+    requires { AreHeld visit.now.schema.now.types docs.old.items }
+    ensures answer { IfOk result (λ bytes. IsAnswered (closes visit.now)
+        (On name.now (held_docs docs.old.items) (Acts (visit_of visit.now))) bytes (held_docs docs.new.items)) }
+    ensures held { AreHeld visit.now.schema.now.types docs.new.items }
+    ensures err { OnErr result (held_docs docs.new.items ≡ held_docs docs.old.items) }
+{
+    match position(docs, name) {
+        Some(at) => act(visit, &mut docs[at].document),
         None => unknown(visit),
     }
 }

@@ -1,12 +1,11 @@
 //! Requests on one document.
-ghost use Rattle.std.specs.Prelude.{◌≡◌, ◌<◌, All, Ok, IfOk, OnErr};
+ghost use Rattle.std.specs.Prelude.{◌≡◌, ◌<◌, All, IfOk, OnErr};
 ghost use Rattle.std.specs.Option.{option_copied};
 ghost use Rattle.snap_core.specs.Value.{IsPlain, Value};
 ghost use Rattle.snap_core.specs.View.{view};
 ghost use Rattle.patch_core.specs.Application.{HasValue};
 ghost use Rattle.patch_core.specs.Printing.{HasPlainValues};
 ghost use Rattle.type_core.specs.Making.{Outcome};
-ghost use Rattle.edit_core.specs.Labelled.{bare};
 ghost use Rattle.http_front.specs.Reply.{printed};
 ghost use Rattle.live_tree.specs.Contents.{state};
 ghost use Rattle.tree_core.specs.Asking.{led_from, shown};
@@ -18,13 +17,14 @@ ghost use Rattle.expr_core.specs.Schema.{views_of};
 ghost use Rattle.host_core.specs.Answering.{answer_of, change_done, target_reply, value_reply};
 ghost use Rattle.host_core.specs.Asking.{Changes, Replaces, Resolves, Shows, Views};
 ghost use Rattle.host_core.specs.Inside.{IsDone, closes, snapshot_of, visit_of};
-ghost use Rattle.host_core.specs.Keeping.{IsKept, IsStaged, Staging};
+ghost use Rattle.host_core.specs.Keeping.{IsKept};
 
+use crate::keeping::finish;
 use crate::reading::{patches_in, pointer_in, value_in};
 use crate::visit::Visit;
-use doc_core::{DocError, Document, Staged};
+use doc_core::{DocError, Document};
 use expr_syntax::Steps;
-use host_replies::{answer_reply, change_reply, node_reply, refusal_reply, snapshot_reply};
+use host_replies::{answer_reply, node_reply, refusal_reply, snapshot_reply};
 use patch_core::Patches;
 use pointer_core::Pointer;
 use snap_core::{Bytes, Snap};
@@ -191,47 +191,4 @@ fn replace_by(visit: &Visit<'_>, document: &mut Document, given: &Snap) -> Resul
 {
     let outcome = document.apply_snapshot(visit.alloc, visit.schema, given);
     finish(visit, document, outcome)
-}
-
-// Replies to what was staged, and keeps it, or replies to its refusal.
-fn finish(
-    visit: &Visit<'_>,
-    document: &mut Document,
-    outcome: Result<Staged, DocError>,
-) -> Result<Bytes, AllocError>
-    requires { IfOk outcome (λ staged. All HasPlainValues staged.patches) }
-    ensures done { (s : Staging) → IsStaged s outcome (state document.old)
-        → IfOk result (λ bytes. IsKept (closes visit.now) (change_done s.before s.outcome) bytes (snapshot_of document.new)) }
-    ensures document { (s : Staging) → IsStaged s outcome (state document.old) → IsDocument s.types (state document.new) }
-    ensures err { (s : Staging) → IsStaged s outcome (state document.old)
-        → OnErr result (snapshot_of document.new ≡ bare s.before.tree) }
-{
-    match outcome {
-        Ok(staged) => keep(visit, document, &staged),
-        Err(DocError::Memory) => Err(AllocError),
-        Err(DocError::Refused(refusal)) => {
-            refusal_reply(visit.alloc, visit.request.close, &refusal)
-        }
-    }
-}
-
-// Keeps what is staged once its reply is made.
-fn keep(visit: &Visit<'_>, document: &mut Document, staged: &Staged) -> Result<Bytes, AllocError>
-    requires { All HasPlainValues staged.now.patches }
-    ensures done { (s : Staging) → IsStaged s (Ok staged.now) (state document.old)
-        → IfOk result (λ bytes. IsKept (closes visit.now) (change_done s.before s.outcome) bytes (snapshot_of document.new)) }
-    ensures document { (s : Staging) → IsStaged s (Ok staged.now) (state document.old) → IsDocument s.types (state document.new) }
-    ensures err { (s : Staging) → IsStaged s (Ok staged.now) (state document.old)
-        → OnErr result (snapshot_of document.new ≡ bare s.before.tree) }
-{
-    match change_reply(visit.alloc, visit.request.close, &staged.patches) {
-        Ok(reply) => {
-            document.commit();
-            Ok(reply)
-        }
-        Err(error) => {
-            document.cancel();
-            Err(error)
-        }
-    }
 }

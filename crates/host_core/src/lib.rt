@@ -10,11 +10,14 @@
 //! leaves all as it was.
 #![tactic(auto)]
 
+mod acting;
 mod answer;
+mod calling;
 mod creating;
 mod document;
 mod held;
 mod host;
+mod keeping;
 mod laws;
 mod reading;
 mod visit;

@@ -33,8 +33,8 @@ pub fn pointer_in(visit: &Visit<'_>) -> Result<Read<Pointer>, AllocError>
     }
 }
 
-// The reply to a text that is no pointer's.
-fn pointer_refusal(visit: &Visit<'_>, error: PointerError) -> Result<Bytes, AllocError>
+/// The reply to a text that is no pointer's.
+pub fn pointer_refusal(visit: &Visit<'_>, error: PointerError) -> Result<Bytes, AllocError>
     ensures reply { IfOk result (λ bytes. bytes ≡ printed (closes visit.now) (replies.rule_reply Rule.Pointer)) }
     ensures cause { OnOk result (error ≢ PointerError.Memory) }
 {
@@ -53,7 +53,7 @@ fn text_of(found: &Option<Txt>) -> &str
     }
 }
 
-fn refuse(visit: &Visit<'_>, rule: &Rule) -> Result<Bytes, AllocError>
+pub fn refuse(visit: &Visit<'_>, rule: &Rule) -> Result<Bytes, AllocError>
     ensures { IfOk result (λ bytes. bytes ≡ printed (closes visit.now) (replies.rule_reply rule.now)) }
 {
     rule_reply(visit.alloc, visit.request.close, rule)

@@ -1,8 +1,8 @@
 pub mod Copies
 pub mod Created
-pub mod Bodies
 pub mod Counting
 pub mod Changed
+pub mod Failing
 pub mod Staying
 pub mod Running
 pub mod Own

@@ -16,10 +16,10 @@ use Rattle.type_table.specs.Table.{Catalog}
 use Rattle.model_syntax.specs.Shown.{ShownBehaviour}
 use Rattle.http_front.specs.Reply.{Reply}
 use Rattle.http_front.specs.Request.{Request}
-use Rattle.route_core.specs.Ask.{Ask, try, list, create, discard, show, replace, change, resolve, view, Asked, unknown, wrong, well, asked_by}
+use Rattle.route_core.specs.Ask.{Ask, try, list, create, discard, show, replace, change, resolve, act, view, Asked, unknown, wrong, well, asked_by}
 use Rattle.host_replies.specs.Replies.{rule_reply, removed_reply}
 use Rattle.host_core.specs.Answering.{Done}
-use Rattle.host_core.specs.Asking.{Visit, Answer, unchanged, doc_read, creating, discarding, after_done, On, Shows, Resolves, Views, Replaces, Changes, AnswersAsk, AnswersAsked, Steps}
+use Rattle.host_core.specs.Asking.{Visit, Answer, unchanged, doc_read, creating, discarding, after_done, On, Shows, Resolves, Views, Replaces, Changes, Acts, AnswersAsk, AnswersAsked, Steps}
 use Rattle.host_core.specs.Docs.{Doc, Docs, AreNamed, are_full, find, without}
 use Rattle.host_core.specs.Laws.{Alike, named_in, name_asked, on_doc}
 use Rattle.host_core.specs.Reading.{value_in}
@@ -108,6 +108,7 @@ module _ (name : List ℕ) (docs others : Docs) (same : find name others ≡ fin
   ask-own visit (replace n) answer on named named2 made is = on-named (Replaces visit) n answer on is
   ask-own visit (change n) answer on named named2 made is = on-named (Changes visit) n answer on is
   ask-own visit (resolve n) answer on named named2 made is = on-named (Resolves visit) n answer on is
+  ask-own visit (act n) answer on named named2 made is = on-named (Acts visit) n answer on is
   ask-own visit (view n one) answer on named named2 made is = on-named (Views visit one) n answer on is
 
   asked-own : (visit : Visit) (asked : Asked) (answer : Answer) → name_asked asked ≡ Some name → AreNamed docs → AreNamed others

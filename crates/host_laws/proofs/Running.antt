@@ -11,24 +11,23 @@ use Rattle.pointer_core.specs.declared.refusal.Rule.TheVariants as rule
 use Rattle.patch_core.specs.Fits.{LeadsTo}
 use Rattle.patch_core.specs.Inverse.{back}
 use Rattle.type_table.specs.Table.{Catalog}
-use Rattle.type_core.specs.Sound.{IsSound}
 use Rattle.model_syntax.specs.Shown.{ShownBehaviour}
 use Rattle.http_front.specs.Request.{Request}
-use Rattle.route_core.specs.Ask.{Ask, try, list, create, discard, show, replace, change, resolve, view, Asked, unknown, wrong, well, asked_by}
+use Rattle.route_core.specs.Ask.{Ask, try, list, create, discard, show, replace, change, resolve, act, view, Asked, unknown, wrong, well, asked_by}
 use Rattle.host_replies.specs.Replies.{rule_reply, removed_reply}
 use Rattle.host_core.specs.Answering.{Done}
-use Rattle.host_core.specs.Asking.{Visit, Answer, unchanged, doc_read, creating, discarding, after_done, On, Shows, Resolves, Views, Replaces, Changes, AnswersAsk, AnswersAsked, Steps}
+use Rattle.host_core.specs.Asking.{Visit, Answer, unchanged, doc_read, creating, discarding, after_done, On, Shows, Resolves, Views, Replaces, Changes, Acts, AnswersAsk, AnswersAsked, Steps}
 use Rattle.host_core.specs.Docs.{Doc, Docs, AreNamed, are_full, find, without}
 use Rattle.host_core.specs.Laws.{name_asked}
 use Rattle.host_core.specs.Reading.{value_in}
-use Rattle.host_core.specs.Sound.{TellsChange}
+use Rattle.host_core.specs.Sound.{IsPlainSchema, TellsChange}
 use Rattle.host_core.proofs.Finding.{find-with_snapshot, find-without}
 use Rattle.host_core.proofs.OneDocument.{names-ascend, others-stay}
 use Rattle.host_laws.specs.Laws.{RunsStaySound}
 use Rattle.host_laws.specs.Runs.{IsShort, Runs, IsTold, AreTold}
 use Rattle.host_laws.specs.Sound.{AreSoundDocs, IsSettledSnapshot}
 use Rattle.host_laws.proofs.Changed.{StaysSettled}
-use Rattle.host_laws.proofs.Staying.{Keeps, each-found, shows-keeps, resolves-keeps, views-keeps, replaces-keeps, changes-keeps, stay-sound}
+use Rattle.host_laws.proofs.Staying.{Keeps, each-found, shows-keeps, resolves-keeps, views-keeps, replaces-keeps, changes-keeps, acts-keeps, stay-sound}
 
 -- the document of a name, which is there before an answer and after it
 module _ (types : Catalog) (n : List ℕ) (docs : Docs) (answer : Answer) (v w : Value) (was : find n docs ≡ Some v) (is : find n answer.docs ≡ Some w) where
@@ -67,7 +66,7 @@ module _ (types : Catalog) (n : List ℕ) (docs : Docs) (answer : Answer) (v w :
         let There : TellsChange v done → Value → Type 0 = λ t x. LeadsTo t.patches v x in
         let Back : TellsChange v done → Value → Type 0 = λ t x. LeadsTo (back t.patches) x v in
         ⊎_elim (λ e. inl (sym left ∙ e))
-        (λ t. inr (record { patches = t.patches; reply = ap (λ a. a.reply) made ∙ t.reply; leads = subst (There t) left t.leads; leads_back = subst (Back t) left t.leads_back }))
+        (λ t. inr (record { patches = t.patches; fault = t.fault; reply = ap (λ a. a.reply) made ∙ t.reply; leads = subst (There t) left t.leads; leads_back = subst (Back t) left t.leads_back }))
         (keeps done (subst Done-there same does)).told
 
   -- a request on this document, or on another
@@ -80,7 +79,7 @@ module _ (types : Catalog) (n : List ℕ) (docs : Docs) (answer : Answer) (v w :
         absurd (cc)
 
 -- a request whose body is short, to sound documents of types that have no fault
-module _ (visit : Visit) (sound : IsSound visit.types) (short : IsShort visit.request.body) (docs : Docs) (named : AreNamed docs) (fine : AreSoundDocs visit.types docs)
+module _ (visit : Visit) (plainly : IsPlainSchema visit.types visit.behaviours) (short : IsShort visit.request.body) (docs : Docs) (named : AreNamed docs) (fine : AreSoundDocs visit.types docs)
     (n : List ℕ) (answer : Answer) (v w : Value) (was : find n docs ≡ Some v) (is : find n answer.docs ≡ Some w) where
   abbrev ToldHere : Type 0
   ToldHere = (w ≡ v) ⊎ TellsChange v (record { reply = answer.reply; snapshot = w })
@@ -88,7 +87,7 @@ module _ (visit : Visit) (sound : IsSound visit.types) (short : IsShort visit.re
   settled : IsSettledSnapshot visit.types v
   settled = each-found (IsSettledSnapshot visit.types) n v docs (recursion_from_All (λ (d : Doc). IsSettledSnapshot visit.types d.snapshot) docs fine) was
 
-  own-on : (Does : Value → Done → Type 0) → Keeps visit sound short Does → (m : List ℕ) → On m docs Does answer → (Some m ≢ Some n → ToldHere) → ToldHere
+  own-on : (Does : Value → Done → Type 0) → Keeps visit plainly short Does → (m : List ℕ) → On m docs Does answer → (Some m ≢ Some n → ToldHere) → ToldHere
   own-on Does keeps m on others =
       own-or visit.types n docs answer v w was is m
       (λ same. let P : List ℕ → Type 0 = λ k. On k docs Does answer in
@@ -103,29 +102,30 @@ module _ (visit : Visit) (sound : IsSound visit.types) (short : IsShort visit.re
   ask-told (discard m) given others =
       own-or visit.types n docs answer v w was is m
       (λ same. let P : List ℕ → Type 0 = λ k. answer ≡ discarding k docs in discard-told visit.types n docs answer v w was is named (subst P same given)) others
-  ask-told (show m) on others = own-on (Shows visit) (shows-keeps visit sound short) m on others
-  ask-told (replace m) on others = own-on (Replaces visit) (replaces-keeps visit sound short) m on others
-  ask-told (change m) on others = own-on (Changes visit) (changes-keeps visit sound short) m on others
-  ask-told (resolve m) on others = own-on (Resolves visit) (resolves-keeps visit sound short) m on others
-  ask-told (view m one) on others = own-on (Views visit one) (views-keeps visit sound short one) m on others
+  ask-told (show m) on others = own-on (Shows visit) (shows-keeps visit plainly short) m on others
+  ask-told (replace m) on others = own-on (Replaces visit) (replaces-keeps visit plainly short) m on others
+  ask-told (change m) on others = own-on (Changes visit) (changes-keeps visit plainly short) m on others
+  ask-told (resolve m) on others = own-on (Resolves visit) (resolves-keeps visit plainly short) m on others
+  ask-told (act m) on others = own-on (Acts visit) (acts-keeps visit plainly short) m on others
+  ask-told (view m one) on others = own-on (Views visit one) (views-keeps visit plainly short one) m on others
 
   asked-told : (asked : Asked) → AnswersAsked visit asked docs answer → (name_asked asked ≢ Some n → ToldHere) → ToldHere
   asked-told unknown given others = others (λ e. cc)
   asked-told (wrong allow) given others = others (λ e. cc)
   asked-told (well ask) given others = ask-told ask given others
 
-step-told : (visit : Visit) → IsSound visit.types → IsShort visit.request.body → (docs : Docs) (answer : Answer) → AreNamed docs → AreSoundDocs visit.types docs
+step-told : (visit : Visit) → IsPlainSchema visit.types visit.behaviours → IsShort visit.request.body → (docs : Docs) (answer : Answer) → AreNamed docs → AreSoundDocs visit.types docs
     → Steps visit docs answer → IsTold visit.types docs answer
-step-told visit sound short docs answer named fine steps =
+step-told visit plainly short docs answer named fine steps =
     record {
       named = names-ascend visit docs answer named steps;
-      sound = stay-sound visit docs answer sound short fine steps;
+      sound = stay-sound visit docs answer plainly short fine steps;
       told = λ n v w was is.
-          asked-told visit sound short docs named fine n answer v w was is (asked_by visit.request.method visit.request.path) steps
+          asked-told visit plainly short docs named fine n answer v w was is (asked_by visit.request.method visit.request.path) steps
           (λ apart. same-told visit.types n docs answer v w was is (others-stay visit docs answer n steps apart));
     }
 
-module _ (types : Catalog) (behaviours : List ShownBehaviour) (sound : IsSound types) where
+module _ (types : Catalog) (behaviours : List ShownBehaviour) (plainly : IsPlainSchema types behaviours) where
   abbrev HasShort : Request → Type 0
   HasShort request = IsShort request.body
 
@@ -136,10 +136,10 @@ module _ (types : Catalog) (behaviours : List ShownBehaviour) (sound : IsSound t
   run-told (request ∷ requests) docs [] short named fine runs = absurd runs
   run-told (request ∷ requests) docs (answer ∷ answers) short named fine runs =
       let told : IsTold types docs answer =
-      step-told (record { types = types; behaviours = behaviours; request = request }) sound short.0 docs answer named fine runs.0 in
+      step-told (record { types = types; behaviours = behaviours; request = request }) plainly short.0 docs answer named fine runs.0 in
       (told, run-told requests answer.docs answers short.1 told.named told.sound runs.1)
 
 pub runs-told : RunsStaySound
-runs-told types behaviours requests answers sound short runs =
-    run-told types behaviours sound requests [] answers (recursion_from_All (λ (r : Request). IsShort r.body) requests short) tt
+runs-told types behaviours requests answers plainly short runs =
+    run-told types behaviours plainly requests [] answers (recursion_from_All (λ (r : Request). IsShort r.body) requests short) tt
     (All-nil (λ (d : Doc). IsSettledSnapshot types d.snapshot)) runs

@@ -9,21 +9,21 @@ use Rattle.std.proofs.lemmas.List.Elements.{All-from_recursion, recursion_from_A
 use Rattle.snap_core.specs.Value.{Value, IsPlain}
 use Rattle.pointer_core.specs.declared.refusal.Rule.TheVariants as rule
 use Rattle.type_core.specs.Making.{Outcome}
-use Rattle.type_core.specs.Sound.{IsSound}
 use Rattle.edit_core.specs.Labelled.{bare}
 use Rattle.tree_core.specs.State.{State}
 use Rattle.doc_core.specs.Changing.{created}
-use Rattle.route_core.specs.Ask.{Ask, try, list, create, discard, show, replace, change, resolve, view, Asked, unknown, wrong, well, asked_by}
+use Rattle.route_core.specs.Ask.{Ask, try, list, create, discard, show, replace, change, resolve, act, view, Asked, unknown, wrong, well, asked_by}
 use Rattle.host_replies.specs.Replies.{rule_reply, removed_reply}
 use Rattle.host_core.specs.Answering.{Done}
-use Rattle.host_core.specs.Asking.{Visit, Answer, unchanged, doc_made, doc_read, creating, discarding, after_done, On, Shows, Resolves, Views, Replaces, Changes, AnswersAsk, AnswersAsked}
+use Rattle.host_core.specs.Asking.{Visit, Answer, unchanged, doc_made, doc_read, creating, discarding, after_done, On, Shows, Resolves, Views, Replaces, Changes, Acts, AnswersAsk, AnswersAsked}
 use Rattle.host_core.specs.Docs.{Doc, Docs, are_full, find, with_doc, with_snapshot, without}
 use Rattle.host_core.specs.Reading.{Read, value_in}
+use Rattle.host_core.specs.Sound.{IsPlainSchema}
+use Rattle.host_core.proofs.Spelled.{spelled-plain}
 use Rattle.host_laws.specs.Laws.{DocumentsStaySound}
 use Rattle.host_laws.specs.Runs.{IsShort}
 use Rattle.host_laws.specs.Sound.{IsSettledSnapshot}
-use Rattle.host_laws.proofs.Bodies.{value-plain}
-use Rattle.host_laws.proofs.Changed.{StaysSettled, same-settled, replaces-settled, changes-settled}
+use Rattle.host_laws.proofs.Changed.{StaysSettled, same-settled, replaces-settled, changes-settled, acts-settled}
 use Rattle.host_laws.proofs.Created.{created-sound}
 
 -- a fact of each document's snapshot
@@ -62,7 +62,7 @@ module _ (P : Value → Type 0) where
   ]
 
 -- a request whose body is short, to documents of types that have no fault
-module _ (visit : Visit) (sound : IsSound visit.types) (short : IsShort visit.request.body) where
+module _ (visit : Visit) (plainly : IsPlainSchema visit.types visit.behaviours) (short : IsShort visit.request.body) where
   abbrev AreFine : Docs → Type 0
   AreFine docs = Each (IsSettledSnapshot visit.types) docs
 
@@ -80,17 +80,20 @@ module _ (visit : Visit) (sound : IsSound visit.types) (short : IsShort visit.re
   views-keeps name v done settled (s, copy, path, points, is) = same-settled visit.types v s _ done copy settled is
 
   pub replaces-keeps : Keeps (Replaces visit)
-  replaces-keeps = replaces-settled visit sound
+  replaces-keeps = replaces-settled visit plainly.sound
 
   pub changes-keeps : Keeps (Changes visit)
-  changes-keeps = changes-settled visit sound short
+  changes-keeps = changes-settled visit plainly.sound short
+
+  pub acts-keeps : Keeps (Acts visit)
+  acts-keeps = acts-settled visit plainly
 
   by-answer : (answer made : Answer) → answer ≡ made → AreFine made.docs → AreFine answer.docs
   by-answer answer made is fine = let P : Answer → Type 0 = λ a. AreFine a.docs in subst P (sym is) fine
 
   made-fine : (name : List ℕ) (docs : Docs) (v : Value) (o : Outcome State) → created visit.types v ≡ o → IsPlain v → AreFine docs → AreFine (doc_made name docs o).docs
   made-fine name docs v (Ok s) is plain fine =
-      each-with (IsSettledSnapshot visit.types) (record { name = name; snapshot = bare s.tree }) docs (created-sound visit.types v s sound plain is).shows fine
+      each-with (IsSettledSnapshot visit.types) (record { name = name; snapshot = bare s.tree }) docs (created-sound visit.types v s plainly.sound plain is).shows fine
   made-fine name docs v (Err refusal) is plain fine = fine
 
   read-fine : (name : List ℕ) (docs : Docs) (given : Read Value) → IfOk given (λ (v : Value). IsPlain v) → AreFine docs → AreFine (doc_read visit.types name docs given).docs
@@ -104,7 +107,7 @@ module _ (visit : Visit) (sound : IsSound visit.types) (short : IsShort visit.re
         else if full then unchanged docs (rule_reply rule.Full) else doc_read visit.types name docs (value_in visit.request.body)).docs
     by true full = fine
     by false true = fine
-    by false false = read-fine name docs (value_in visit.request.body) (value-plain visit.request.body) fine
+    by false false = read-fine name docs (value_in visit.request.body) (spelled-plain visit.request.body) fine
 
   discard-fine : (name : List ℕ) (docs : Docs) → AreFine docs → AreFine (discarding name docs).docs
   discard-fine name docs fine = by (is_some (find name docs)) where
@@ -130,6 +133,7 @@ module _ (visit : Visit) (sound : IsSound visit.types) (short : IsShort visit.re
   ask-fine (replace name) docs answer fine on = on-fine name docs (Replaces visit) answer replaces-keeps fine on
   ask-fine (change name) docs answer fine on = on-fine name docs (Changes visit) answer changes-keeps fine on
   ask-fine (resolve name) docs answer fine on = on-fine name docs (Resolves visit) answer resolves-keeps fine on
+  ask-fine (act name) docs answer fine on = on-fine name docs (Acts visit) answer acts-keeps fine on
   ask-fine (view name one) docs answer fine on = on-fine name docs (Views visit one) answer (views-keeps one) fine on
 
   asked-fine : (asked : Asked) (docs : Docs) (answer : Answer) → AreFine docs → AnswersAsked visit asked docs answer → AreFine answer.docs
@@ -138,7 +142,7 @@ module _ (visit : Visit) (sound : IsSound visit.types) (short : IsShort visit.re
   asked-fine (well ask) docs answer fine answers = ask-fine ask docs answer fine answers
 
 pub stay-sound : DocumentsStaySound
-stay-sound visit docs answer sound short fine steps =
+stay-sound visit docs answer plainly short fine steps =
     let Fine : Doc → Type 0 = λ d. IsSettledSnapshot visit.types d.snapshot in
     All-from_recursion Fine answer.docs
-    (asked-fine visit sound short (asked_by visit.request.method visit.request.path) docs answer (recursion_from_All Fine docs fine) steps)
+    (asked-fine visit plainly short (asked_by visit.request.method visit.request.path) docs answer (recursion_from_All Fine docs fine) steps)

@@ -1,17 +1,26 @@
 -- What holds of documents, whatever requests come.
-use Rattle.std.specs.Prelude.{◌≡◌, ◌≢◌, ℕ, List, [], map, All, Some, Ok}
+use Rattle.std.specs.Prelude.{◌≡◌, ◌≢◌, ℕ, List, [], map, All, Some, Ok, Err}
 use Rattle.snap_core.specs.Value.{Value, IsPlain}
 use Rattle.type_table.specs.Table.{Catalog}
+use Rattle.snap_core.specs.declared.number.NodeNo.{NodeNo}
+use Rattle.type_core.specs.Making.{Refused}
 use Rattle.type_core.specs.Sound.{IsSound}
 use Rattle.edit_core.specs.Labelled.{bare}
 use Rattle.tree_core.specs.State.{State}
 use Rattle.model_syntax.specs.Shown.{ShownBehaviour}
+use Rattle.action_core.specs.Laws.{HasAtomic}
+use Rattle.action_core.specs.Layers.{layers_of}
+use Rattle.action_laws.specs.Schemas.{behaving_by}
+use Rattle.doc_core.specs.Acting.{callee_given, node_pointed, run_of}
 use Rattle.doc_core.specs.Changing.{created}
 use Rattle.http_front.specs.Request.{Request}
+use Rattle.host_core.specs.Answering.{acting, refusal_reply, stays}
 use Rattle.host_core.specs.Asking.{Visit, Answer, Steps}
+use Rattle.host_core.specs.Calling.{Call}
 use Rattle.route_core.specs.Ask.{create, well, asked_by}
 use Rattle.host_core.specs.Docs.{Docs, AreNamed, find}
 use Rattle.host_core.specs.Laws.{Alike, on_doc}
+use Rattle.host_core.specs.Sound.{IsPlainSchema}
 use Rattle.host_laws.specs.Runs.{IsShort, Runs, AreTold, IsTaken, requests_on, replies_on}
 use Rattle.host_laws.specs.Sound.{IsSettledDocument, IsSettledSnapshot, AreSoundDocs}
 
@@ -24,16 +33,16 @@ pub record IsWellMade (types : Catalog) (s : State) : Type 0 where
 abbrev pub CreatedAreSound : Type 0
 CreatedAreSound = (types : Catalog) (given : Value) (s : State) → IsSound types → IsPlain given → created types given ≡ Ok s → IsWellMade types s
 
--- Where all documents are sound and settled, they are so after every request.
+-- Where all documents of a plain schema are sound and settled, they are so after every request.
 abbrev pub DocumentsStaySound : Type 0
 DocumentsStaySound =
-    (visit : Visit) (docs : Docs) (answer : Answer) → IsSound visit.types → IsShort visit.request.body
+    (visit : Visit) (docs : Docs) (answer : Answer) → IsPlainSchema visit.types visit.behaviours → IsShort visit.request.body
     → AreSoundDocs visit.types docs → Steps visit docs answer → AreSoundDocs visit.types answer.docs
 
 -- So are those of a host that begins with none, after each of its requests; and each answer tells what it changed.
 abbrev pub RunsStaySound : Type 0
 RunsStaySound =
-    (types : Catalog) (behaviours : List ShownBehaviour) (requests : List Request) (answers : List Answer) → IsSound types
+    (types : Catalog) (behaviours : List ShownBehaviour) (requests : List Request) (answers : List Answer) → IsPlainSchema types behaviours
     → All (λ (request : Request). IsShort request.body) requests → Runs types behaviours [] requests answers → AreTold types [] answers
 
 -- What a request gets that makes no document, and what becomes of the document that it is on, goes by this document alone.
@@ -52,3 +61,13 @@ RunsAreOwn =
     → Runs types behaviours [] requests answers → All IsTaken answers
     → (own : List Answer) × Runs types behaviours [] (requests_on name requests) own
     × (map (λ (answer : Answer). answer.reply) own ≡ replies_on name requests answers)
+
+-- Where an action that an atomic middleware surrounds ends refused, its request leaves the document as it was, and its reply
+-- is the refusal alone.
+abbrev pub FailedAtomicsStay : Type 0
+FailedAtomicsStay =
+    (types : Catalog) (behaviours : List ShownBehaviour) (call : Call) (s : State) (n : NodeNo) (refusal : Refused) → IsSettledDocument types s
+    → node_pointed types call.path call.name s.tree ≡ Ok n
+    → HasAtomic (layers_of (behaving_by types behaviours) (callee_given n call.name call.given) s.tree)
+    → (run_of types behaviours (callee_given n call.name call.given) s).outcome ≡ Err refusal
+    → acting types behaviours s (Ok call) ≡ stays s (refusal_reply refusal)

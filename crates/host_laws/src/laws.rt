@@ -1,4 +1,4 @@
-ghost use Rattle.host_laws.specs.Laws.{CreatedAreSound, DocumentsStaySound, OtherRepliesAreOwn, RunsAreOwn, RunsStaySound};
+ghost use Rattle.host_laws.specs.Laws.{CreatedAreSound, DocumentsStaySound, FailedAtomicsStay, OtherRepliesAreOwn, RunsAreOwn, RunsStaySound};
 
 /// A new document is sound and settled.
 pub fn created_are_sound()
@@ -13,6 +13,11 @@ pub fn documents_stay_sound()
 /// Whatever requests come to a host with no documents, all of its documents are sound, and replies tell their changes.
 pub fn runs_stay_sound()
     ensures { RunsStaySound }
+{}
+
+/// A refused action that an atomic middleware surrounds leaves its document as it was, and its reply is the refusal alone.
+pub fn failed_atomics_stay()
+    ensures { FailedAtomicsStay }
 {}
 
 /// What a request gets that makes no document goes by its own document alone, be the host full or not.

@@ -12,5 +12,6 @@
 mod laws;
 
 pub use laws::{
-    created_are_sound, documents_stay_sound, other_replies_are_own, runs_are_own, runs_stay_sound,
+    created_are_sound, documents_stay_sound, failed_atomics_stay, other_replies_are_own,
+    runs_are_own, runs_stay_sound,
 };

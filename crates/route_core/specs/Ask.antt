@@ -5,13 +5,14 @@ use Rattle.route_core.specs.declared.ask.Ask as declared
 use Rattle.route_core.specs.declared.ask.Ask.TheVariants as ask
 use Rattle.route_core.specs.declared.ask.Asked as declared_asked
 use Rattle.route_core.specs.declared.ask.Asked.TheVariants as asked
-use Rattle.route_core.specs.declared.place.Part.TheVariants.{Whole, Snapshot, Patches, Reference}
+use Rattle.route_core.specs.declared.place.Part.TheVariants.{Whole, Snapshot, Patches, Reference, Actions}
 use Rattle.route_core.specs.Place.{Place, check, names, document}
 use Rattle.route_core.specs.Place as place
 use Rattle.route_core.specs.Path.{place_of}
 
 -- what a request asks for: trying a value; the names of all documents; or, of the document of that name, to make it or to
--- remove it, its snapshot or another one in its place, a patch of it, what a reference leads to, or what a view of that name answers
+-- remove it, its snapshot or another one in its place, a patch of it, what a reference leads to, to call an action in it, or what a
+-- view of that name answers
 pub data Ask : Type 0 where
   try : Ask
   list : Ask
@@ -21,6 +22,7 @@ pub data Ask : Type 0 where
   replace : List ℕ → Ask
   change : List ℕ → Ask
   resolve : List ℕ → Ask
+  act : List ℕ → Ask
   view : List ℕ → List ℕ → Ask
 
 -- no such place; another method than those that the place takes; or something that can be asked
@@ -56,6 +58,7 @@ asked_at (document name Snapshot) =
     (record { method = codes "GET"; ask = show name } ∷ record { method = codes "PUT"; ask = replace name } ∷ [])
 asked_at (document name Patches) = asked_by_one (codes "POST") (change name)
 asked_at (document name Reference) = asked_by_one (codes "GET") (resolve name)
+asked_at (document name Actions) = asked_by_one (codes "POST") (act name)
 asked_at (place.view name one) = asked_by_one (codes "GET") (view name one)
 
 -- what a method asks for at the place that a path names
@@ -77,6 +80,7 @@ seen_ask (ask.Show name) = show name.now
 seen_ask (ask.Replace name) = replace name.now
 seen_ask (ask.Change name) = change name.now
 seen_ask (ask.Resolve name) = resolve name.now
+seen_ask (ask.Act name) = act name.now
 seen_ask (ask.View name one) = view name.now one.now
 
 abbrev pub seen : declared_asked.Asked → Asked

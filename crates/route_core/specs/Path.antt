@@ -9,7 +9,7 @@ use Rattle.matchit.specs.Router.{RouteOf, route_from}
 use Rattle.matchit.specs.Seek.{first}
 use Rattle.matchit.specs.declared.error.InsertError.{InsertError}
 use Rattle.route_core.specs.declared.place.Part.{Part}
-use Rattle.route_core.specs.declared.place.Part.TheVariants.{Whole, Snapshot, Patches, Reference}
+use Rattle.route_core.specs.declared.place.Part.TheVariants.{Whole, Snapshot, Patches, Reference, Actions}
 use Rattle.route_core.specs.declared.routes.Route.{Route}
 use Rattle.route_core.specs.declared.routes.Route.TheVariants as route
 use Rattle.route_core.specs.Place.{Place, check, names, document, view, is_document_name}
@@ -41,6 +41,7 @@ table =
     ∷ record { text = codes "/docs/{d}/snapshot"; value = route.Document Snapshot }
     ∷ record { text = codes "/docs/{d}/patches"; value = route.Document Patches }
     ∷ record { text = codes "/docs/{d}/reference"; value = route.Document Reference }
+    ∷ record { text = codes "/docs/{d}/actions"; value = route.Document Actions }
     ∷ record { text = codes "/docs/{d}/views/{v}"; value = route.View }
     ∷ []
 

@@ -24,6 +24,8 @@ pub enum Ask<'p> {
     Change(&'p str),
     /// What a reference in it leads to.
     Resolve(&'p str),
+    /// To call an action of a node in it.
+    Act(&'p str),
     /// What a view of a node in it answers: the document's name, and the view's, which may be any text.
     View(&'p str, &'p str),
 }
@@ -68,6 +70,7 @@ fn asked_of<'p>(name: &'p str, part: Part, method: &[u8]) -> Asked<'p>
         },
         Part::Patches => by_one(method, "POST", Ask::Change(name)),
         Part::Reference => by_one(method, "GET", Ask::Resolve(name)),
+        Part::Actions => by_one(method, "POST", Ask::Act(name)),
     }
 }
 

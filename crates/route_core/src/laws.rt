@@ -1,6 +1,6 @@
 //! What some paths name.
 ghost use Rattle.std.specs.Prelude.{codes};
-ghost use Rattle.route_core.specs.declared.place.Part.TheVariants.{Whole, Snapshot, Patches, Reference};
+ghost use Rattle.route_core.specs.declared.place.Part.TheVariants.{Whole, Snapshot, Patches, Reference, Actions};
 ghost use Rattle.route_core.specs.Laws.{PathNames, NamesNothing};
 ghost use Rattle.route_core.specs.Place.{check, names, document, view};
 
@@ -12,6 +12,7 @@ pub fn paths_have_places()
     ensures snapshot { PathNames (codes "/docs/d/snapshot") (document (codes "d") Snapshot) }
     ensures patches { PathNames (codes "/docs/patches/patches") (document (codes "patches") Patches) }
     ensures reference { PathNames (codes "/docs/d/reference") (document (codes "d") Reference) }
+    ensures actions { PathNames (codes "/docs/d/actions") (document (codes "d") Actions) }
     ensures view { PathNames (codes "/docs/d/views/v.1") (view (codes "d") (codes "v.1")) }
     ensures empty { NamesNothing (codes "") }
     ensures slash_after { NamesNothing (codes "/check/") }

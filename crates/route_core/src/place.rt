@@ -22,4 +22,6 @@ pub enum Part {
     Patches,
     /// What a reference leads to.
     Reference,
+    /// The actions of its nodes.
+    Actions,
 }

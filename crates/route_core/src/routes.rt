@@ -128,6 +128,11 @@ fn router(alloc: Global) -> Result<Router<Route>, AllocError>
         "/docs/{d}/reference",
         Route::Document(Part::Reference),
     )?;
+    add(
+        &mut router,
+        "/docs/{d}/actions",
+        Route::Document(Part::Actions),
+    )?;
     add(&mut router, "/docs/{d}/views/{v}", Route::View)?;
     Ok(router)
 }

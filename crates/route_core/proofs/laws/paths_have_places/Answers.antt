@@ -13,6 +13,7 @@ returns c = record {
   snapshot = refl;
   patches = refl;
   reference = refl;
+  actions = refl;
   view = refl;
   empty = refl;
   slash_after = refl;

@@ -59,3 +59,9 @@ returns-clause-named c =
     let own : map action_shown c.own_actions.result.now ≡ parts_of lists c.args.m.0 = rw (← c.self.view_is) at c.own_actions.ensures.actions in
     rw (← c.self.view_is, c.number.ensures) (found_named name_of action_shown lists c.own_actions.result.now c.args.m.0 c.args.name.now own c.self.inside.actions
     (IsNumbered-of lists c.self.inside.actions c.self.invariant.actions) c.in_ok-at.at (sym c.position.ensures ∙ c.in_ok-at.was))
+
+pub returns-in_err-at-clause-plain : goal.returns-in_err-at-clause-plain
+returns-in_err-at-clause-plain c = rw (← c.self.view_is) c.self.invariant.plain_actions
+
+pub returns-clause-plain : goal.returns-clause-plain
+returns-clause-plain c = rw (← c.self.view_is) c.self.invariant.plain_actions

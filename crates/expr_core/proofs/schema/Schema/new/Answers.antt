@@ -37,6 +37,8 @@ invariant_of-result c =
     record {
       ordered = c.requires.ordered;
       plain = c.requires.plain;
+      plain_actions = c.requires.plain_actions;
+      plain_conditions = c.requires.plain_conditions;
       views = c.loop-behaviour.invariant.views ∙ ap (λ ds. numbering_of (map views_in ds)) all;
       actions = c.loop-behaviour.invariant.actions ∙ ap (λ ds. numbering_of (map actions_in ds)) all;
     }

@@ -1,0 +1,62 @@
+-- Copying plain answers one after the other, and what is left of answers.
+use Rattle.std.proofs.Common.{◌≡◌, ℕ, zero, suc, List, [], ◌∷◌, ◌++◌, ◌<◌, ◌≤◌, ◌+◌, length, get_or, drop, drop-cons, add-one, Bool, true, false, ◌&&◌, is_some, Option, Some, None, refl, sym, ap, ◌∙◌, subst, if◌then◌else◌}
+use Rattle.std.specs.Prelude.{slice_get}
+use Rattle.std.specs.Option.{option_map, option_and_then}
+use Rattle.std.specs.Str.{bytes_eq}
+use Rattle.std.proofs.lemmas.List.{drop_all}
+use Rattle.snap_core.specs.Value.{Value, Items, no_parts, part, value_at}
+use Rattle.snap_core.specs.declared.snap.Snap.{Snap}
+use Rattle.snap_core.specs.View.{view, items_view}
+use Rattle.edit_core.specs.Labelled.{bare}
+use Rattle.edit_core.specs.Template.{entry_at}
+use Rattle.node_core.specs.declared.labelled.Labelled.{Labelled}
+use Rattle.node_core.specs.declared.labelled.LabelledField.{LabelledField}
+use Rattle.node_core.specs.View.{labelled, items, field, fields, plain_fields}
+use Rattle.eval_core.specs.Answer.{Answer, Answers, answer, no_answers}
+use Rattle.answer_ops.specs.declared.value.Value as coded
+use Rattle.answer_ops.specs.View.{answer_of, answers_of}
+use Rattle.answer_writing.specs.Taking.{plain_in, plains_in}
+
+-- the answers that are left begin with the one at the index
+pub left : (xs : List coded.Value) (i : ℕ) (x : coded.Value) → i < length xs → x ≡ get_or xs i x
+    → answers_of (drop i xs) ≡ answer (answer_of x) (answers_of (drop (i + 1) xs))
+left xs i x within here = ap answers_of (whole within)
+  where
+    whole : i < length xs → drop i xs ≡ x ∷ drop (i + 1) xs
+    whole within = rw (add-one, drop-cons xs i x, ← here)
+
+-- plain values in front of what follows
+abbrev pub one_before : Value → Option Items → Option Items
+one_before v rest = option_map (λ ps. part v ps) rest
+
+abbrev pub plain_before : List Snap → Option Items → Option Items
+plain_before [] rest = rest
+plain_before (s ∷ ss) rest = one_before (view s) (plain_before ss rest)
+
+pub before-push : (ss : List Snap) (s : Snap) (rest : Option Items) → plain_before (ss ++ s ∷ []) rest ≡ plain_before ss (one_before (view s) rest)
+before-push [] s rest = refl
+before-push (r ∷ ss) s rest = ap (one_before (view r)) (before-push ss s rest)
+
+pub before-all : (ss : List Snap) → plain_before ss (Some no_parts) ≡ Some (items_view ss)
+before-all [] = refl
+before-all (s ∷ ss) = ap (one_before (view s)) (before-all ss)
+
+-- answers are plain where the first is and the others are
+pub plain-step : (x : Answer) (xs : Answers) → is_some (plains_in (answer x xs)) ≡ (is_some (plain_in x) && is_some (plains_in xs))
+plain-step x xs = by_first (plain_in x) (plains_in xs)
+  where
+    by_first : (v : Option Value) (ps : Option Items) → is_some (option_and_then (λ w. option_map (λ qs. part w qs) ps) v) ≡ (is_some v && is_some ps)
+    by_first None ps = refl
+    by_first (Some v) None = refl
+    by_first (Some v) (Some ps) = refl
+
+-- the first plain value, in front of the others
+pub first-plain : (x : Answer) (xs : Answers) (v : Value) → plain_in x ≡ Some v → plains_in (answer x xs) ≡ one_before v (plains_in xs)
+first-plain x xs v e = ap (λ (o : Option Value). option_and_then (λ w. option_map (λ qs. part w qs) (plains_in xs)) o) e
+
+-- what stands at an index is first of what is left
+pub held_left : (held : List Labelled) (i : ℕ) → slice_get (drop i (items held)) 0 ≡ option_map labelled (slice_get held i)
+held_left [] zero = refl
+held_left [] (suc i) = refl
+held_left (x ∷ xs) zero = refl
+held_left (x ∷ xs) (suc i) = held_left xs i

@@ -1,0 +1,4 @@
+pub mod InTurn
+pub mod PlainValues
+pub mod Places
+pub mod Copies
