@@ -8,3 +8,10 @@ pub mod Names
 pub mod Starting
 pub mod Standing
 pub mod Guarding
+pub mod Evaluations
+pub mod PartsLeft
+pub mod ItemsRead
+pub mod Removing
+pub mod Written
+pub mod Statements
+pub mod Framed

@@ -6,10 +6,13 @@ mod acting;
 mod arguments;
 mod beginning;
 mod binding;
+mod clearing;
 mod layers;
+mod naming;
 mod parts;
 mod plainly;
 mod writes;
+mod writing;
 
 pub use acting::{Acting, node_in, refused};
 pub use beginning::{Begun, Callee, begin};
