@@ -1,7 +1,6 @@
 pub mod Doing
 pub mod PlainParts
 pub mod OneByOne
-pub mod Named
 pub mod Surrounding
 pub mod Reaching
 pub mod Names

@@ -1,6 +1,6 @@
 use Rattle.std.proofs.Common.{◌+◌, ◌-◌, ◌∙◌, sym}
 use Rattle.type_table.specs.Names.{named_within}
-use Rattle.action_steps.proofs.Named.{named_within-step}
+use Rattle.type_table.proofs.Named.{named_within-step}
 use Rattle.action_steps.proofs.arguments.named.Goals as goal
 
 pub loop-preserved : goal.loop-preserved
