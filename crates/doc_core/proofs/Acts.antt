@@ -21,6 +21,7 @@ use Rattle.tree_core.specs.Outcome.{◌>>=◌, or_refuse}
 use Rattle.tree_core.specs.Recorded.{after_settling}
 use Rattle.tree_core.specs.State.{State, patches_of}
 use Rattle.tree_core.specs.declared.place.Place.{Place}
+use Rattle.live_tree.specs.Laws.{CanBeTakenBack}
 use Rattle.eval_core.specs.Answer.{Answer, plain, answer}
 use Rattle.answer_ops.specs.View.{answer_of, answers_from, answers_of}
 use Rattle.answer_ops.specs.declared.value.Value.{Value}
@@ -51,6 +52,12 @@ all-answers vs answers same = ap answers_from same ∙ listed vs
 pub plain-given : (vs : Items) → ArePlain vs → ArePlainAnswers (plain_answers vs)
 plain-given no_parts fine = tt
 plain-given (part v vs) fine = (fine.0, plain-given vs fine.1)
+
+-- what was kept, where nothing was written since
+pub still-kept : (result : Result Staged DocError) (before now after : State) → OnOk result (after ≡ now) → CanBeTakenBack before now
+    → OnOk result (CanBeTakenBack before after)
+still-kept (Ok staged) before now after same kept = let P : State → Type 0 = λ s. CanBeTakenBack before s in subst P (sym same) kept
+still-kept (Err e) before now after same kept = tt
 
 -- A refusal beside patches.
 
