@@ -12,7 +12,7 @@ use Rattle.type_core.specs.Sound.{IsSound}
 use Rattle.edit_core.specs.Labelled.{bare}
 use Rattle.tree_core.specs.Asking.{place_at}
 use Rattle.tree_core.specs.declared.place.Place.{Place}
-use Rattle.tree_core.specs.State.{State, patches_of}
+use Rattle.tree_core.specs.State.{State}
 use Rattle.tree_laws.specs.Trees.{IsTypedTree}
 use Rattle.tree_laws.proofs.StayTyped.{settling-stays}
 use Rattle.live_tree.specs.Laws.{CanBeTakenBack}
