@@ -50,15 +50,15 @@ pub acts-then : {T U A B : Type 0} (seen : T → A) (then_seen : U → B) (x : T
     → Acts seen (Ok x) act a b → Acts then_seen r (next (seen x)) b c → Acts then_seen r (act >>= next) a c
 acts-then {T} {U} {A} {B} seen then_seen x r act next a b c first second = record {
   came = λ tried met.
-    let s : State = state_at a tried met in
-    let t : State = (act s).state in
-    let h = first.came tried met in
-    let e : act s ≡ came (Ok (seen x)) t = ap (λ o. came o t) h.0 in
-    let same : state_at b t.tried t.met ≡ t = same_state b (spent met) a t h.1 in
-    let k : Came then_seen r (next (seen x) t) (spent t.met) b c =
-    subst (λ (u : State). Came then_seen r (next (seen x) u) (spent t.met) b c) same (second.came t.tried t.met) in
-    subst (λ (ran : Ran B). Came then_seen r ran (spent met) a c) (sym (then-came act next s t (seen x) e))
-    (came_on then_seen r (next (seen x) t) a b c (spent met) t h.1 k);
+      let s : State = state_at a tried met in
+      let t : State = (act s).state in
+      let h = first.came tried met in
+      let e : act s ≡ came (Ok (seen x)) t = ap (λ o. came o t) h.0 in
+      let same : state_at b t.tried t.met ≡ t = same_state b (spent met) a t h.1 in
+      let k : Came then_seen r (next (seen x) t) (spent t.met) b c =
+      subst (λ (u : State). Came then_seen r (next (seen x) u) (spent t.met) b c) same (second.came t.tried t.met) in
+      subst (λ (ran : Ran B). Came then_seen r ran (spent met) a c) (sym (then-came act next s t (seen x) e))
+      (came_on then_seen r (next (seen x) t) a b c (spent met) t h.1 k);
   back = kept-together a.tree b.tree c.tree first.back second.back;
   rises = let h = first.rises in let k = second.rises in omega arith;
 }
@@ -68,11 +68,11 @@ pub acts-stop : {T U A B : Type 0} (seen : T → A) (then_seen : U → B) (e : R
 acts-stop {T} {U} seen then_seen halts.Memory act next a b first = record { came = λ tried met. tt; back = first.back; rises = first.rises }
 acts-stop {T} {U} {A} {B} seen then_seen (halts.Refused r) act next a b first = record {
   came = λ tried met.
-    let s : State = state_at a tried met in
-    let t : State = (act s).state in
-    let h = first.came tried met in
-    let e : act s ≡ came (Err (refused_as r)) t = ap (λ o. came o t) h.0 in
-    subst (λ (ran : Ran B). Came {T = U} then_seen (Err (halts.Refused r)) ran (spent met) a b) (sym (then-refused act next s t (refused_as r) e)) (refl, h.1);
+      let s : State = state_at a tried met in
+      let t : State = (act s).state in
+      let h = first.came tried met in
+      let e : act s ≡ came (Err (refused_as r)) t = ap (λ o. came o t) h.0 in
+      subst (λ (ran : Ran B). Came {T = U} then_seen (Err (halts.Refused r)) ran (spent met) a b) (sym (then-refused act next s t (refused_as r) e)) (refl, h.1);
   back = first.back;
   rises = first.rises;
 }
@@ -117,7 +117,7 @@ pub acts-looks : {T A : Type 0} (seen : T → A) (r : Result T RunError) (said :
     → IsOutcome seen r (said p.tree.tree) → Acts seen r (looks said) p p
 acts-looks {T} {A} seen r said p is = record {
   came = λ tried met.
-    subst (λ (ran : Ran A). Came seen r ran (spent met) p p) (sym (looks-came said (state_at p tried met))) (told_at seen r (said p.tree.tree) p tried met is);
+      subst (λ (ran : Ran A). Came seen r ran (spent met) p p) (sym (looks-came said (state_at p tried met))) (told_at seen r (said p.tree.tree) p tried met is);
   back = kept-same p.tree p.tree refl;
   rises = omega arith;
 }
@@ -148,10 +148,10 @@ pub acts-tried : {T A : Type 0} (seen : T → A) (x : T) (other : Refused → Ac
     → Acts seen (Ok x) (or_else other act) a b
 acts-tried {T} {A} seen x other act a b did = record {
   came = λ tried met.
-    let s : State = state_at a tried met in
-    let t : State = (act s).state in
-    let h = did.came tried met in
-    subst (λ (ran : Ran A). Came seen (Ok x) ran (spent met) a b) (sym (tried-came other act s t (seen x) (ap (λ o. came o t) h.0))) (refl, h.1);
+      let s : State = state_at a tried met in
+      let t : State = (act s).state in
+      let h = did.came tried met in
+      subst (λ (ran : Ran A). Came seen (Ok x) ran (spent met) a b) (sym (tried-came other act s t (seen x) (ap (λ o. came o t) h.0))) (refl, h.1);
   back = did.back;
   rises = did.rises;
 }
@@ -160,14 +160,14 @@ pub acts-rescued : {T U A : Type 0} (seen : T → A) (then_seen : U → A) (e : 
     → Acts {T = T} seen (Err (halts.Refused e)) act a b → Acts then_seen r (other (refused_as e)) b c → Acts then_seen r (or_else other act) a c
 acts-rescued {T} {U} {A} seen then_seen e r other act a b c first second = record {
   came = λ tried met.
-    let s : State = state_at a tried met in
-    let t : State = (act s).state in
-    let h = first.came tried met in
-    let same : state_at b t.tried t.met ≡ t = same_state b (spent met) a t h.1 in
-    let k : Came then_seen r (other (refused_as e) t) (spent t.met) b c =
-    subst (λ (u : State). Came then_seen r (other (refused_as e) u) (spent t.met) b c) same (second.came t.tried t.met) in
-    subst (λ (ran : Ran A). Came then_seen r ran (spent met) a c) (sym (tried-refused other act s t (refused_as e) (ap (λ o. came o t) h.0)))
-    (came_on then_seen r (other (refused_as e) t) a b c (spent met) t h.1 k);
+      let s : State = state_at a tried met in
+      let t : State = (act s).state in
+      let h = first.came tried met in
+      let same : state_at b t.tried t.met ≡ t = same_state b (spent met) a t h.1 in
+      let k : Came then_seen r (other (refused_as e) t) (spent t.met) b c =
+      subst (λ (u : State). Came then_seen r (other (refused_as e) u) (spent t.met) b c) same (second.came t.tried t.met) in
+      subst (λ (ran : Ran A). Came then_seen r ran (spent met) a c) (sym (tried-refused other act s t (refused_as e) (ap (λ o. came o t) h.0)))
+      (came_on then_seen r (other (refused_as e) t) a b c (spent met) t h.1 k);
   back = kept-together a.tree b.tree c.tree first.back second.back;
   rises = let h = first.rises in let k = second.rises in omega arith;
 }
@@ -175,10 +175,10 @@ acts-rescued {T} {U} {A} seen then_seen e r other act a b c first second = recor
 pub acts-kept : {T A : Type 0} (seen : T → A) (x : T) (act : Act A) (a b : Point) → Acts seen (Ok x) act a b → Acts seen (Ok x) (all_or_nothing act) a b
 acts-kept {T} {A} seen x act a b did = record {
   came = λ tried met.
-    let s : State = state_at a tried met in
-    let t : State = (act s).state in
-    let h = did.came tried met in
-    subst (λ (ran : Ran A). Came seen (Ok x) ran (spent met) a b) (sym (atomic-came act s t (seen x) (ap (λ o. came o t) h.0))) (refl, h.1);
+      let s : State = state_at a tried met in
+      let t : State = (act s).state in
+      let h = did.came tried met in
+      subst (λ (ran : Ran A). Came seen (Ok x) ran (spent met) a b) (sym (atomic-came act s t (seen x) (ap (λ o. came o t) h.0))) (refl, h.1);
   back = did.back;
   rises = did.rises;
 }

@@ -3,10 +3,16 @@
 #![tactic(auto)]
 
 mod acting;
+mod arguments;
 mod beginning;
+mod binding;
+mod clearing;
 mod layers;
+mod naming;
 mod parts;
+mod plainly;
 mod writes;
+mod writing;
 
 pub use acting::{Acting, node_in, refused};
 pub use beginning::{Begun, Callee, begin};

@@ -8,7 +8,14 @@ ghost use Rattle.action_core.specs.Running.{ran};
 ghost use Rattle.action_steps.specs.Doing.{Acts, point};
 ghost use Rattle.action_steps.specs.Acting.{acting_of, env_of};
 
-use crate::acting::Acting;
+use crate::acting::{Acting, node_in};
+use crate::clearing::{removals, remove_all};
+use crate::naming::{
+    entry_put, item_inserted, item_pushed, item_replaced, part_dropped, property_set,
+    snapshot_applied,
+};
+use crate::parts::{three_parts, two_parts, value};
+use crate::writing::{told_in, write_named};
 use expr_syntax::{Expr, Steps};
 use live_tree::Tree;
 use snap_core::Name;
@@ -31,7 +38,10 @@ pub fn set<L: Ledger>(
     ensures { (counted : ℕ) → Acts (λ _. env_of env.now) result (ran (acting_of acting.now) (syntax.set (shown on.now) name.now (shown to.now)) (env_of env.now))
         (point (state tree.old) counted steps.old) (point (state tree.new) counted steps.new) }
 {
-    Err(RunError::Memory)
+    let parts = two_parts(acting, (on, to), env, &*tree, steps)?;
+    let n = node_in(acting.frame, &parts.first)?;
+    let naming = property_set(acting.alloc, n, name, parts.second)?;
+    write_named(acting, naming, tree)
 }
 
 /// Sets a key of a map, or adds it.
@@ -51,7 +61,10 @@ pub fn put<L: Ledger>(
     ensures { (counted : ℕ) → Acts (λ _. env_of env.now) result (ran (acting_of acting.now) (syntax.put (shown on.now) (shown key.now) (shown to.now)) (env_of env.now))
         (point (state tree.old) counted steps.old) (point (state tree.new) counted steps.new) }
 {
-    Err(RunError::Memory)
+    let parts = three_parts(acting, (on, key, to), env, &*tree, steps)?;
+    let n = node_in(acting.frame, &parts.first)?;
+    let naming = entry_put(acting.alloc, n, &parts.second, parts.third)?;
+    write_named(acting, naming, tree)
 }
 
 /// Adds an item at the end of an array.
@@ -69,7 +82,11 @@ pub fn push<L: Ledger>(
     ensures { (counted : ℕ) → Acts (λ _. env_of env.now) result (ran (acting_of acting.now) (syntax.push (shown on.now) (shown to.now)) (env_of env.now))
         (point (state tree.old) counted steps.old) (point (state tree.new) counted steps.new) }
 {
-    Err(RunError::Memory)
+    let parts = two_parts(acting, (on, to), env, &*tree, steps)?;
+    let n = node_in(acting.frame, &parts.first)?;
+    let size = tree.len(n).unwrap_or(0);
+    let naming = item_pushed(acting.alloc, n, parts.second, size)?;
+    write_named(acting, naming, tree)
 }
 
 /// Adds an item before the one at an index.
@@ -89,7 +106,10 @@ pub fn insert<L: Ledger>(
     ensures { (counted : ℕ) → Acts (λ _. env_of env.now) result (ran (acting_of acting.now) (syntax.insert (shown on.now) (shown index.now) (shown to.now)) (env_of env.now))
         (point (state tree.old) counted steps.old) (point (state tree.new) counted steps.new) }
 {
-    Err(RunError::Memory)
+    let parts = three_parts(acting, (on, index, to), env, &*tree, steps)?;
+    let n = node_in(acting.frame, &parts.first)?;
+    let naming = item_inserted(acting.alloc, n, &parts.second, parts.third)?;
+    write_named(acting, naming, tree)
 }
 
 /// Sets the item at an index.
@@ -109,7 +129,10 @@ pub fn replace<L: Ledger>(
     ensures { (counted : ℕ) → Acts (λ _. env_of env.now) result (ran (acting_of acting.now) (syntax.replace (shown on.now) (shown index.now) (shown to.now)) (env_of env.now))
         (point (state tree.old) counted steps.old) (point (state tree.new) counted steps.new) }
 {
-    Err(RunError::Memory)
+    let parts = three_parts(acting, (on, index, to), env, &*tree, steps)?;
+    let n = node_in(acting.frame, &parts.first)?;
+    let naming = item_replaced(acting.alloc, n, &parts.second, parts.third)?;
+    write_named(acting, naming, tree)
 }
 
 /// Removes an item of an array, or a key of a map.
@@ -127,7 +150,10 @@ pub fn drop<L: Ledger>(
     ensures { (counted : ℕ) → Acts (λ _. env_of env.now) result (ran (acting_of acting.now) (syntax.drop (shown on.now) (shown key.now)) (env_of env.now))
         (point (state tree.old) counted steps.old) (point (state tree.new) counted steps.new) }
 {
-    Err(RunError::Memory)
+    let parts = two_parts(acting, (on, key), env, &*tree, steps)?;
+    let n = node_in(acting.frame, &parts.first)?;
+    let naming = part_dropped(acting.alloc, n, &parts.second)?;
+    write_named(acting, naming, tree)
 }
 
 /// Removes all items of an array, last to first, or all keys of a map.
@@ -143,7 +169,12 @@ pub fn clear<L: Ledger>(
     ensures { (counted : ℕ) → Acts (λ _. env_of env.now) result (ran (acting_of acting.now) (syntax.clear (shown on.now)) (env_of env.now))
         (point (state tree.old) counted steps.old) (point (state tree.new) counted steps.new) }
 {
-    Err(RunError::Memory)
+    let x = value(acting, on, env, &*tree, steps)?;
+    let n = node_in(acting.frame, &x)?;
+    match removals(acting.alloc, &*tree, n) {
+        Ok(places) => remove_all(acting, places.as_slice(), tree),
+        Err(error) => Err(told_in(acting.frame, error)),
+    }
 }
 
 /// Applies a snapshot to a node.
@@ -161,5 +192,8 @@ pub fn apply<L: Ledger>(
     ensures { (counted : ℕ) → Acts (λ _. env_of env.now) result (ran (acting_of acting.now) (syntax.apply (shown on.now) (shown to.now)) (env_of env.now))
         (point (state tree.old) counted steps.old) (point (state tree.new) counted steps.new) }
 {
-    Err(RunError::Memory)
+    let parts = two_parts(acting, (on, to), env, &*tree, steps)?;
+    let n = node_in(acting.frame, &parts.first)?;
+    let naming = snapshot_applied(acting.alloc, n, parts.second);
+    write_named(acting, naming, tree)
 }
