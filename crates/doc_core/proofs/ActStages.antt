@@ -1,15 +1,18 @@
 -- An action is staged, step by step.
-use Rattle.std.proofs.Common.{◌≡◌, ℕ, ◌+◌, ◌≤◌, List, Ok, Err, Result, OnOk, IfOk, sym, ap, subst, ◌∙◌}
+use Rattle.std.proofs.Common.{◌≡◌, ℕ, List, Some, Ok, Err, Result, OnOk, IfOk, sym, subst}
 use Rattle.std.specs.Prelude.{All}
 use Rattle.snap_core.specs.Value.{Items, IsPlain, ArePlain}
+use Rattle.snap_core.specs.declared.number.NodeNo.{NodeNo}
+use Rattle.pointer_core.specs.Path.{Path}
 use Rattle.patch_core.specs.declared.patch.Patch.{Patch}
 use Rattle.patch_core.specs.Printing.{HasPlainValues}
 use Rattle.type_table.specs.Table.{Catalog}
 use Rattle.type_core.specs.Making.{Outcome}
 use Rattle.type_core.specs.Sound.{IsSound}
 use Rattle.edit_core.specs.Labelled.{bare}
-use Rattle.tree_core.specs.Recorded.{IsTreeOf, after_settling}
-use Rattle.tree_core.specs.State.{State, patches_of}
+use Rattle.tree_core.specs.Asking.{place_at}
+use Rattle.tree_core.specs.declared.place.Place.{Place}
+use Rattle.tree_core.specs.State.{State}
 use Rattle.tree_laws.specs.Trees.{IsTypedTree}
 use Rattle.tree_laws.proofs.StayTyped.{settling-stays}
 use Rattle.live_tree.specs.Laws.{CanBeTakenBack}
@@ -17,20 +20,21 @@ use Rattle.expr_core.specs.Plain.{HavePlainConstants, HavePlainActions}
 use Rattle.expr_core.specs.Schema.{Schema, behaviours_shown, views_in, views_of}
 use Rattle.expr_core.proofs.Lists.{map-map}
 use Rattle.model_syntax.specs.Shown.{ShownView, ShownBehaviour, behaviour_shown}
+use Rattle.eval_core.specs.Answer.{Answers}
 use Rattle.plain_answers.specs.Plainness.{ArePlainAnswers}
 use Rattle.action_core.specs.Act.{Ran}
 use Rattle.action_core.specs.Behaving.{Callee}
 use Rattle.action_laws.specs.Laws.{IsPlainBehaving}
 use Rattle.action_laws.specs.Schemas.{behaving_by}
 use Rattle.action_laws.proofs.Schemas.{schemas-plain}
-use Rattle.doc_core.specs.Acting.{Acted, after_run, run_of}
+use Rattle.action_steps.specs.Doing.{spent}
+use Rattle.doc_core.specs.Acting.{Acted, acted_on, after_run, most_act_steps, node_there, plain_answers, run_of}
 use Rattle.doc_core.specs.Documents.{IsDocument}
 use Rattle.doc_core.specs.Staging.{StagesAct, IsStagedAfter, TakesSteps}
 use Rattle.doc_core.specs.declared.document.Staged.{Staged}
 use Rattle.doc_core.specs.declared.error.DocError.{DocError}
-use Rattle.doc_core.specs.declared.error.DocError.TheVariants as error
 use Rattle.doc_core.proofs.ActionTyped.{action-typed}
-use Rattle.doc_core.proofs.Acts.{run-left}
+use Rattle.doc_core.proofs.Acts.{acted-there, plain-given, run-left, steps-there}
 use Rattle.doc_core.proofs.Typed.{nothing-logged}
 
 -- what a document's schema and its tree are
@@ -69,8 +73,23 @@ module _ (types : Catalog) (sound : IsSound types) (ran : Ran (Unit {0})) (typed
   run-plain now (Ok staged) stages = let P : List Patch → Type 0 = λ ps. All HasPlainValues ps in subst P (sym stages.1) (left-typed _ stages.0).logged
   run-plain now (Err e) stages = tt
 
--- steps that are counted where memory doesn't run out
-pub takes : (result : Result Staged DocError) (most before after : ℕ) → after ≤ before + most → TakesSteps result most before after
-takes (Ok staged) most before after few = few
-takes (Err error.Memory) most before after few = tt
-takes (Err (error.Refused r)) most before after few = few
+-- the action of the node at a place that a pointer names, with arguments that are these values
+module _ (types : Catalog) (behaviours : List ShownBehaviour) (path : Path) (name : List ℕ) (args : Items) (s : State) (place : Place) (at : place_at path s.tree ≡ Ok place)
+    (n : NodeNo) (there : Some n ≡ node_there types place s.tree) (xs : Answers) (same : xs ≡ plain_answers args) where
+  pub act-stages : (now : State) (result : Result Staged DocError) → StagesAct result (after_run types (run_of types behaviours (record { node = n; name = name; given = xs }) s)) now
+      → StagesAct result (acted_on types behaviours path name args s) now
+  act-stages now result stages =
+      let P : Outcome Acted → Type 0 = λ o. StagesAct result o now in
+      let Q : Answers → Type 0 = λ ys. StagesAct result (after_run types (run_of types behaviours (record { node = n; name = name; given = ys }) s)) now in
+      subst P (sym (acted-there types behaviours path name args s place at n there)) (subst Q same stages)
+
+  pub act-takes : (before after : ℕ) (result : Result Staged DocError)
+      → TakesSteps result (spent (run_of types behaviours (record { node = n; name = name; given = xs }) s).state.met) before after
+      → TakesSteps result (most_act_steps types behaviours path name args s) before after
+  act-takes before after result few =
+      let P : ℕ → Type 0 = λ k. TakesSteps result k before after in
+      let Q : Answers → Type 0 = λ ys. TakesSteps result (spent (run_of types behaviours (record { node = n; name = name; given = ys }) s).state.met) before after in
+      subst P (sym (steps-there types behaviours path name args s place at n there)) (subst Q same few)
+
+pub given-plain : (vs : Items) (xs : Answers) → xs ≡ plain_answers vs → ArePlain vs → ArePlainAnswers xs
+given-plain vs xs same plain = let P : Answers → Type 0 = λ ys. ArePlainAnswers ys in subst P (sym same) (plain-given vs plain)

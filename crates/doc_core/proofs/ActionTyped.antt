@@ -16,10 +16,10 @@ use Rattle.tree_laws.specs.Calls.{Writes}
 use Rattle.tree_laws.specs.Trees.{IsTypedTree}
 use Rattle.tree_laws.proofs.StayTyped.{writes-typed}
 use Rattle.plain_answers.specs.Plainness.{IsPlainAnswer, ArePlainAnswers, HasPlainConstants}
-use Rattle.action_core.specs.Act.{State, root_of, state_of}
+use Rattle.action_core.specs.Act.{root_of, state_of}
 use Rattle.action_core.specs.Behaving.{Behaving, Callee}
 use Rattle.action_core.specs.Calling.{acted, most_actions}
-use Rattle.action_core.specs.Giving.{Giving, given}
+use Rattle.answer_writing.specs.Giving.{Giving, given}
 use Rattle.action_core.specs.Keeping.{Keeping, GivesFine}
 use Rattle.action_core.proofs.Kept.{called_kept}
 use Rattle.action_laws.specs.Laws.{IsPlainBehaving}

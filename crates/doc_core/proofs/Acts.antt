@@ -1,6 +1,6 @@
 -- What an action comes to, step by step.
-use Rattle.std.proofs.Common.{◌≡◌, ℕ, ◌+◌, ◌≤◌, List, [], ◌∷◌, ◌++◌, Option, Some, None, Result, Ok, Err, OnOk, IfOk, map, refl, sym, ap, subst, ◌∙◌}
-use Rattle.std.specs.Prelude.{All, option_and_then, unwrap_or}
+use Rattle.std.proofs.Common.{◌≡◌, ℕ, List, [], ◌∷◌, ◌++◌, Option, Some, None, Result, Ok, Err, OnOk, map, refl, sym, ap, subst, ◌∙◌}
+use Rattle.std.specs.Prelude.{option_and_then, unwrap_or}
 use Rattle.std.specs.Option.{option_map}
 use Rattle.snap_core.specs.Value.{Items, no_parts, part, ArePlain}
 use Rattle.snap_core.specs.View.{view, items_view}
@@ -10,29 +10,25 @@ use Rattle.pointer_core.specs.Path.{Path}
 use Rattle.pointer_core.specs.declared.refusal.Refusal.{Refusal}
 use Rattle.pointer_core.specs.declared.refusal.Rule.TheVariants as rule
 use Rattle.patch_core.specs.declared.patch.Patch.{Patch}
-use Rattle.patch_core.specs.Printing.{HasPlainValues}
 use Rattle.type_table.specs.Table.{Catalog}
 use Rattle.type_core.specs.Making.{Outcome, Refused}
-use Rattle.type_core.specs.Made.{refused_as}
 use Rattle.model_syntax.specs.Shown.{ShownBehaviour}
-use Rattle.edit_core.specs.Labelled.{Labelled}
 use Rattle.tree_core.specs.Asking.{place_along, place_at}
 use Rattle.tree_core.specs.Outcome.{◌>>=◌, or_refuse}
 use Rattle.tree_core.specs.Recorded.{after_settling}
 use Rattle.tree_core.specs.State.{State, patches_of}
 use Rattle.tree_core.specs.declared.place.Place.{Place}
+use Rattle.live_tree.specs.Laws.{CanBeTakenBack}
 use Rattle.eval_core.specs.Answer.{Answer, plain, answer}
 use Rattle.answer_ops.specs.View.{answer_of, answers_from, answers_of}
 use Rattle.answer_ops.specs.declared.value.Value.{Value}
 use Rattle.plain_answers.specs.Plainness.{ArePlainAnswers}
 use Rattle.action_core.specs.Act.{Ran}
-use Rattle.action_core.specs.Behaving.{Callee}
 use Rattle.action_steps.specs.Doing.{spent}
 use Rattle.doc_core.specs.declared.document.Staged.{Staged}
 use Rattle.doc_core.specs.declared.error.DocError.{DocError}
-use Rattle.doc_core.specs.declared.error.DocError.TheVariants as error
-use Rattle.doc_core.specs.Acting.{Acted, plain_answers, callee_given, run_of, after_refusal, after_outcome, after_run, acted_on, node_there, node_pointed, node_asked, most_act_steps}
-use Rattle.doc_core.specs.Staging.{Settles, StagesAct, TakesSteps, outcome_of}
+use Rattle.doc_core.specs.Acting.{Acted, plain_answers, callee_given, run_of, after_refusal, after_outcome, after_run, acted_on, node_there, most_act_steps}
+use Rattle.doc_core.specs.Staging.{Settles, StagesAct, outcome_of}
 
 -- Arguments.
 
@@ -51,6 +47,12 @@ all-answers vs answers same = ap answers_from same ∙ listed vs
 pub plain-given : (vs : Items) → ArePlain vs → ArePlainAnswers (plain_answers vs)
 plain-given no_parts fine = tt
 plain-given (part v vs) fine = (fine.0, plain-given vs fine.1)
+
+-- what was kept, where nothing was written since
+pub still-kept : (result : Result Staged DocError) (before now after : State) → OnOk result (after ≡ now) → CanBeTakenBack before now
+    → OnOk result (CanBeTakenBack before after)
+still-kept (Ok staged) before now after same kept = let P : State → Type 0 = λ s. CanBeTakenBack before s in subst P (sym same) kept
+still-kept (Err e) before now after same kept = tt
 
 -- A refusal beside patches.
 

@@ -1,26 +1,18 @@
 -- Nothing is kept of a failed atomic action.
-use Rattle.std.proofs.Common.{◌≡◌, ℕ, List, [], ◌∷◌, Some, None, Ok, Err, map, refl, sym, ap, ◌∙◌}
+use Rattle.std.proofs.Common.{◌≡◌, List, [], ◌∷◌, None, Ok, Err, map, refl, sym, ap, ◌∙◌}
 use Rattle.std.specs.Prelude.{IsErr}
-use Rattle.snap_core.specs.Value.{Items}
 use Rattle.snap_core.specs.declared.number.NodeNo.{NodeNo}
-use Rattle.pointer_core.specs.Path.{Path}
 use Rattle.patch_core.specs.declared.patch.Patch.{Patch}
-use Rattle.type_table.specs.Table.{Catalog}
 use Rattle.type_core.specs.Making.{Outcome, Refused}
-use Rattle.model_syntax.specs.Shown.{ShownBehaviour}
 use Rattle.edit_core.specs.Logged.{patch_of_logged}
 use Rattle.tree_core.specs.Outcome.{◌>>=◌}
 use Rattle.tree_core.specs.Recorded.{after_settling}
 use Rattle.tree_core.specs.State.{State, Calls, edits_of, patches_of}
-use Rattle.tree_laws.specs.Tied.{IsSettled}
-use Rattle.live_tree.specs.Laws.{given_back}
 use Rattle.action_core.specs.Act.{Ran, state_of}
 use Rattle.action_core.specs.Calling.{most_actions}
-use Rattle.action_core.specs.Laws.{HasAtomic}
-use Rattle.action_core.specs.Layers.{layers_of}
 use Rattle.action_laws.specs.Laws.{FailedAtomicsAreNothing}
 use Rattle.action_laws.specs.Schemas.{behaving_by}
-use Rattle.doc_core.specs.Acting.{Acted, acted_on, after_outcome, after_refusal, after_run, callee_given, node_pointed, run_of}
+use Rattle.doc_core.specs.Acting.{Acted, after_outcome, after_refusal, after_run, callee_given, run_of}
 use Rattle.doc_core.specs.Laws.{AtomicsKeepAllOrNothing}
 
 -- a refusal that left no patch isn't told beside any

@@ -52,7 +52,7 @@ root-refused types o error.Memory now refuses = tt
 pub settled-stages : (types : Catalog) (o : Outcome State) (written now : State) (staged : Staged) → o ≡ Ok written → Settles types written now staged
     → Stages (Ok staged) (o >>= settled types) now
 settled-stages types o written now staged is settles =
-    (ap (λ (x : Outcome State). x >>= settled types) is ∙ ap (λ (s : State). Ok s) (sym settles.settled), settles.patches)
+    (ap (λ (x : Outcome State). x >>= settled types) is ∙ ap (λ (s : State). Ok s) (sym settles.settled), settles.patches, settles.faultless)
 
 pub settled-staged : (types : Catalog) (before written now : State) → CanBeTakenBack before written → CanBeTakenBack written now
     → now ≡ after_settling types written → IsTreeOf types (after_settling types written) → IsStagedAfter types before now

@@ -1,5 +1,5 @@
 -- What actions of a document do.
-use Rattle.std.specs.Prelude.{◌≡◌, ℕ, ◌+◌, ◌≤◌, List, [], ◌∷◌, ◌++◌, Option, Some, None, Result, Ok, Err, option_and_then, unwrap_or}
+use Rattle.std.specs.Prelude.{ℕ, List, [], ◌∷◌, ◌++◌, Option, Some, None, Ok, Err, option_and_then, unwrap_or}
 use Rattle.std.specs.Option.{option_map}
 use Rattle.snap_core.specs.Value.{Items, no_parts, part}
 use Rattle.snap_core.specs.declared.number.NodeNo.{NodeNo}

@@ -1,11 +1,12 @@
 //! Requests that change a document: staged first, then kept by `commit` or taken back by `cancel`.
-ghost use Rattle.std.specs.Prelude.{◌≡◌, All, IfOk, IfErr, OnOk, OnErr};
+ghost use Rattle.std.specs.Prelude.{◌≡◌, All, None, IfOk, IfErr, OnOk, OnErr};
 ghost use Rattle.snap_core.specs.Value.{IsPlain};
 ghost use Rattle.snap_core.specs.View.{view};
 ghost use Rattle.patch_core.specs.Application.{HasValue};
 ghost use Rattle.patch_core.specs.Printing.{HasPlainValues};
 ghost use Rattle.tree_core.specs.Recorded.{after_settling};
 ghost use Rattle.tree_core.specs.State.{State, mark_of, patches_of};
+ghost use Rattle.tree_core.specs.Written.{target};
 ghost use Rattle.live_tree.specs.Contents.{state};
 ghost use Rattle.live_tree.specs.Laws.{CanBeTakenBack};
 ghost use Rattle.doc_core.specs.Changing.{patched, replaced, root_written};
@@ -18,7 +19,7 @@ use expr_core::Schema;
 use live_tree::{Mark, Tree};
 use patch_core::Patches;
 use pointer_core::{Pointer, Refusal, Rule};
-use snap_core::Snap;
+use snap_core::{NodeNo, Snap};
 use std::alloc::Global;
 use tree_core::{Change, Place, Target, TreeError};
 use type_core::Types;
@@ -83,13 +84,19 @@ fn write_root(tree: &mut Tree, alloc: Global, types: &Types, given: &Snap) -> Re
     };
     let change = Change::Set(given.clone_in(alloc)?);
     let place = Place::Whole(root);
-    let to = Target {
-        running: &[root],
-        place: &place,
-        named: None,
-    };
-    tree.write(alloc, types, &to, change)?;
+    tree.write(alloc, types, &target_of(&[root], &place), change)?;
     Ok(())
+}
+
+// A place that no path names.
+fn target_of<'a>(running: &'a [NodeNo], place: &'a Place) -> Target<'a>
+    ensures { target result ≡ record { running = running.now; place = place.now; named = None } }
+{
+    Target {
+        running,
+        place,
+        named: None,
+    }
 }
 
 /// Settles what was written and tells all patches. After an error the tree is as at the mark.

@@ -14,7 +14,7 @@ use patch_core::{Patches, read_patches};
 use pointer_core::Pointer;
 use snap_core::{Field, Ident, ModelNo, NodeNo, Snap, Txt};
 use std::alloc::Global;
-use tree_core::{Target, TreeError};
+use tree_core::{Place, Target, TreeError};
 use type_core::Types;
 
 impl Session {
@@ -96,11 +96,7 @@ impl Session {
         let place = place_of(alloc, node, fields)?;
         let running = self.running(alloc, types, fields)?;
         let change = change_of(alloc, fields)?;
-        let to = Target {
-            running: running.as_slice(),
-            place: &place,
-            named: None,
-        };
+        let to = target_of(running.as_slice(), &place);
         Ok(self.tree.write(alloc, types, &to, change)?)
     }
 
@@ -200,6 +196,15 @@ fn patches_of(alloc: Global, list: &Snap) -> Result<Patches, Fault>
     ensures plain { IfOk result (λ patches. All HasPlainValues patches) }
 {
     Ok(read_patches(alloc, list)?)
+}
+
+// A place that no path names.
+fn target_of<'a>(running: &'a [NodeNo], place: &'a Place) -> Target<'a> {
+    Target {
+        running,
+        place,
+        named: None,
+    }
 }
 
 fn identifier_of(alloc: Global, value: &Snap) -> Result<Ident, Fault> {

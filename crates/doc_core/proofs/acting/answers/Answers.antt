@@ -1,4 +1,4 @@
-use Rattle.std.proofs.Common.{map, ap, ◌∙◌, sym}
+use Rattle.std.proofs.Common.{map, ap, ◌∙◌}
 use Rattle.std.proofs.lemmas.List.{take_all}
 use Rattle.doc_core.proofs.Acts.{value_answer, all-answers}
 use Rattle.doc_core.proofs.acting.answers.Goals as goal
