@@ -1,6 +1,6 @@
 -- What is staged, once it is kept or taken back.
 use Rattle.std.specs.Prelude.{option_map}
-use Rattle.std.proofs.Common.{◌≡◌, ℕ, List, Bool, Option, Some, None, Result, Ok, Err, refl, sym, ap, subst, ◌∙◌, arith}
+use Rattle.std.proofs.Common.{◌≡◌, ℕ, List, Bool, Option, Result, Ok, Err, refl, sym, ap, subst, ◌∙◌, arith}
 use Rattle.patch_core.specs.declared.patch.Patch.{Patch}
 use Rattle.pointer_core.specs.declared.refusal.Refusal.{Refusal}
 use Rattle.type_table.specs.Table.{Catalog}

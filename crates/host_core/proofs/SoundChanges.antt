@@ -1,5 +1,5 @@
 -- Changes of sound documents, from the copy that a request works on to the snapshots that are told.
-use Rattle.std.proofs.Common.{◌≡◌, ◌<◌, ◌^◌, List, length, Option, None, Ok, Err, IfOk, inl, inr, refl, sym, ap, subst}
+use Rattle.std.proofs.Common.{◌≡◌, ◌<◌, ◌^◌, List, length, None, Ok, Err, IfOk, inl, inr, refl, sym, ap, subst}
 use Rattle.snap_core.specs.Value.{Value, IsPlain}
 use Rattle.patch_core.specs.Fits.{LeadsTo}
 use Rattle.patch_core.specs.Inverse.{back}

@@ -2,7 +2,7 @@
 use Rattle.std.specs.Prelude.{◌≡◌, ℕ, List, [], codes, Bool, ◌||◌, Option, Some, None, IsSome, Ok, Err, if◌then◌else◌}
 use Rattle.std.specs.List.{list_all}
 use Rattle.std.specs.Str.{bytes_eq}
-use Rattle.snap_core.specs.Value.{Value, Items, Fields, text, list, dict, no_parts, keys_of, value_at}
+use Rattle.snap_core.specs.Value.{Value, Items, Fields, list, dict, no_parts, keys_of, value_at}
 use Rattle.snap_core.specs.View.{items_view}
 use Rattle.pointer_core.specs.Path.{Path, printed}
 use Rattle.pointer_core.specs.Spelling.{pointer_fault}

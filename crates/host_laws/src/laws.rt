@@ -1,5 +1,7 @@
 ghost use Rattle.host_laws.specs.Laws.{CreatedAreSound, DocumentsStaySound, FailedAtomicsStay, OtherRepliesAreOwn, RunsAreOwn, RunsStaySound};
 
+use action_laws::failed_atomics_are_nothing;
+
 /// A new document is sound and settled.
 pub fn created_are_sound()
     ensures { CreatedAreSound }
@@ -18,7 +20,9 @@ pub fn runs_stay_sound()
 /// A refused action that an atomic middleware surrounds leaves its document as it was, and its reply is the refusal alone.
 pub fn failed_atomics_stay()
     ensures { FailedAtomicsStay }
-{}
+{
+    failed_atomics_are_nothing();
+}
 
 /// What a request gets that makes no document goes by its own document alone, be the host full or not.
 pub fn other_replies_are_own()

@@ -1,4 +1,4 @@
-use Rattle.std.proofs.Common.{◌≡◌, Ok, Err, refl, sym, subst}
+use Rattle.std.proofs.Common.{◌≡◌, Ok, Err, refl, subst}
 use Rattle.snap_core.specs.Value.{Value}
 use Rattle.snap_core.specs.View.{view}
 use Rattle.tree_core.specs.State.{State}

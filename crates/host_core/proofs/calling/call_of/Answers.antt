@@ -1,4 +1,4 @@
-use Rattle.std.proofs.Common.{◌≡◌, ℕ, List, refl}
+use Rattle.std.proofs.Common.{ℕ, List, refl}
 use Rattle.pointer_core.specs.declared.refusal.Rule.TheVariants.{Pointer}
 use Rattle.host_replies.specs.Replies.{rule_reply}
 use Rattle.host_core.proofs.Pointing.{no-pointer}

@@ -1,4 +1,4 @@
-use Rattle.std.proofs.Common.{◌≡◌, subst}
+use Rattle.std.proofs.Common.{subst}
 use Rattle.snap_core.specs.Value.{Value, ArePlainMembers, IsPlain}
 use Rattle.snap_core.specs.View.{fields_view}
 use Rattle.snap_core.proofs.Views.{view-Dict}
