@@ -124,7 +124,9 @@ acts-looks {T} {A} seen r said p is = record {
 
 refusal_outcome : {T A : Type 0} (seen : T → A) (e : RunError) (path : Path) (by : Rule) → IsRefusal e path by → IsOutcome {T = T} seen (Err e) (refuse path by)
 refusal_outcome seen halts.Memory path by is = tt
-refusal_outcome {T} {A} seen (halts.Refused r) path by is = ap (λ (q : Refusal). Err {A = A} (refused_as q)) (sym is)
+refusal_outcome {T} {A} seen (halts.Refused r) path by is =
+    let refused : Refusal → Outcome A = λ q. Err (refused_as q) in
+    ap refused (sym is)
 
 pub acts-refuses : {T A : Type 0} (seen : T → A) (e : RunError) (path : Path) (by : Rule) (p : Point) → IsRefusal e path by
     → Acts {T = T} {A = A} seen (Err e) (refuses path by) p p

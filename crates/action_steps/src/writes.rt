@@ -38,7 +38,7 @@ pub fn set<L: Ledger>(
     ensures { (counted : ℕ) → Acts (λ _. env_of env.now) result (ran (acting_of acting.now) (syntax.set (shown on.now) name.now (shown to.now)) (env_of env.now))
         (point (state tree.old) counted steps.old) (point (state tree.new) counted steps.new) }
 {
-    let parts = two_parts(acting, (on, to), env, &*tree, steps)?;
+    let parts = two_parts(acting, on, to, env, &*tree, steps)?;
     let n = node_in(acting.frame, &parts.first)?;
     let naming = property_set(acting.alloc, n, name, parts.second)?;
     write_named(acting, naming, tree)
@@ -61,7 +61,7 @@ pub fn put<L: Ledger>(
     ensures { (counted : ℕ) → Acts (λ _. env_of env.now) result (ran (acting_of acting.now) (syntax.put (shown on.now) (shown key.now) (shown to.now)) (env_of env.now))
         (point (state tree.old) counted steps.old) (point (state tree.new) counted steps.new) }
 {
-    let parts = three_parts(acting, (on, key, to), env, &*tree, steps)?;
+    let parts = three_parts(acting, on, key, to, env, &*tree, steps)?;
     let n = node_in(acting.frame, &parts.first)?;
     let naming = entry_put(acting.alloc, n, &parts.second, parts.third)?;
     write_named(acting, naming, tree)
@@ -82,7 +82,7 @@ pub fn push<L: Ledger>(
     ensures { (counted : ℕ) → Acts (λ _. env_of env.now) result (ran (acting_of acting.now) (syntax.push (shown on.now) (shown to.now)) (env_of env.now))
         (point (state tree.old) counted steps.old) (point (state tree.new) counted steps.new) }
 {
-    let parts = two_parts(acting, (on, to), env, &*tree, steps)?;
+    let parts = two_parts(acting, on, to, env, &*tree, steps)?;
     let n = node_in(acting.frame, &parts.first)?;
     let size = tree.len(n).unwrap_or(0);
     let naming = item_pushed(acting.alloc, n, parts.second, size)?;
@@ -106,7 +106,7 @@ pub fn insert<L: Ledger>(
     ensures { (counted : ℕ) → Acts (λ _. env_of env.now) result (ran (acting_of acting.now) (syntax.insert (shown on.now) (shown index.now) (shown to.now)) (env_of env.now))
         (point (state tree.old) counted steps.old) (point (state tree.new) counted steps.new) }
 {
-    let parts = three_parts(acting, (on, index, to), env, &*tree, steps)?;
+    let parts = three_parts(acting, on, index, to, env, &*tree, steps)?;
     let n = node_in(acting.frame, &parts.first)?;
     let naming = item_inserted(acting.alloc, n, &parts.second, parts.third)?;
     write_named(acting, naming, tree)
@@ -129,7 +129,7 @@ pub fn replace<L: Ledger>(
     ensures { (counted : ℕ) → Acts (λ _. env_of env.now) result (ran (acting_of acting.now) (syntax.replace (shown on.now) (shown index.now) (shown to.now)) (env_of env.now))
         (point (state tree.old) counted steps.old) (point (state tree.new) counted steps.new) }
 {
-    let parts = three_parts(acting, (on, index, to), env, &*tree, steps)?;
+    let parts = three_parts(acting, on, index, to, env, &*tree, steps)?;
     let n = node_in(acting.frame, &parts.first)?;
     let naming = item_replaced(acting.alloc, n, &parts.second, parts.third)?;
     write_named(acting, naming, tree)
@@ -150,7 +150,7 @@ pub fn drop<L: Ledger>(
     ensures { (counted : ℕ) → Acts (λ _. env_of env.now) result (ran (acting_of acting.now) (syntax.drop (shown on.now) (shown key.now)) (env_of env.now))
         (point (state tree.old) counted steps.old) (point (state tree.new) counted steps.new) }
 {
-    let parts = two_parts(acting, (on, key), env, &*tree, steps)?;
+    let parts = two_parts(acting, on, key, env, &*tree, steps)?;
     let n = node_in(acting.frame, &parts.first)?;
     let naming = part_dropped(acting.alloc, n, &parts.second)?;
     write_named(acting, naming, tree)
@@ -192,7 +192,7 @@ pub fn apply<L: Ledger>(
     ensures { (counted : ℕ) → Acts (λ _. env_of env.now) result (ran (acting_of acting.now) (syntax.apply (shown on.now) (shown to.now)) (env_of env.now))
         (point (state tree.old) counted steps.old) (point (state tree.new) counted steps.new) }
 {
-    let parts = two_parts(acting, (on, to), env, &*tree, steps)?;
+    let parts = two_parts(acting, on, to, env, &*tree, steps)?;
     let n = node_in(acting.frame, &parts.first)?;
     let naming = snapshot_applied(acting.alloc, n, parts.second);
     write_named(acting, naming, tree)
