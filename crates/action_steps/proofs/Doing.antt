@@ -1,5 +1,5 @@
 -- How calls that do acts are put together.
-use Rattle.std.proofs.Common.{◌≡◌, ℕ, suc, ◌+◌, ◌≤◌, List, Bool, true, false, Result, Ok, Err, refl, sym, ◌∙◌, ap, subst, arith}
+use Rattle.std.proofs.Common.{◌≡◌, ℕ, suc, ◌+◌, ◌≤◌, List, [], Bool, true, false, Result, Ok, Err, refl, sym, ◌∙◌, ap, subst, arith}
 use Rattle.std.specs.Prelude.{IsErrAnd}
 use Rattle.snap_core.specs.declared.number.NodeNo.{NodeNo}
 use Rattle.pointer_core.specs.Path.{Path}
@@ -189,7 +189,7 @@ pub acts-taken-back : {T A : Type 0} (seen : T → A) (e : RunError) (act : Act 
     → Acts {T = T} seen (Err e) act a b → Acts {T = T} seen (Err e) (all_or_nothing act) a (back_at a b)
 acts-taken-back {T} seen halts.Memory act a b did = record {
   came = λ tried met. tt;
-  back = record { calls = _; edited = tt; joined = refl; led = refl; later = did.back.later };
+  back = record { calls = []; edited = tt; joined = refl; led = refl; later = did.back.later };
   rises = did.rises;
 }
 acts-taken-back {T} {A} seen (halts.Refused r) act a b did = record {
@@ -200,6 +200,6 @@ acts-taken-back {T} {A} seen (halts.Refused r) act a b did = record {
       let back : Stands a (back_at a b) (spent met) (taken_back a.tree t) = record { tree = ap (given_back a.tree) h.1.tree; counted = h.1.counted; ticks = h.1.ticks } in
       subst (λ (ran : Ran A). Came {T = T} seen (Err (halts.Refused r)) ran (spent met) a (back_at a b))
       (sym (atomic-refused act s t (refused_as r) (ap (λ o. came o t) h.0))) (refl, back);
-  back = record { calls = _; edited = tt; joined = refl; led = refl; later = did.back.later };
+  back = record { calls = []; edited = tt; joined = refl; led = refl; later = did.back.later };
   rises = did.rises;
 }
