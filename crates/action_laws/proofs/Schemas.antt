@@ -7,9 +7,10 @@ use Rattle.std.proofs.lemmas.List.Elements.{All-nil, All-head, All-tail, All-map
 use Rattle.snap_core.specs.declared.number.ModelNo.{ModelNo}
 use Rattle.model_syntax.specs.Shown.{ShownAction, ShownBehaviour}
 use Rattle.expr_core.specs.Numbers.{parts_of}
+use Rattle.expr_core.specs.Plain.{HasPlainAction, HavePlainActions}
 use Rattle.expr_core.specs.Schema.{views_in}
 use Rattle.schema_views.proofs.PlainBodies.{bodies-plain}
-use Rattle.action_laws.specs.Schemas.{action_by, HasPlainAction, HavePlainActions, SchemasBehavePlainly}
+use Rattle.action_laws.specs.Schemas.{action_by, SchemasBehavePlainly}
 
 either : {A : Type 0} (P : A → Type 0) (b : Bool) (x : A) (rest : Option A) → P x → IfSome rest P → IfSome (if b then Some x else rest) P
 either P true x rest h g = h

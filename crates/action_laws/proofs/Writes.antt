@@ -1,26 +1,23 @@
 -- A write of a plain answer is a write of a plain value.
-use Rattle.std.proofs.Common.{◌≡◌, [], Bool, true, false, Option, Some, None, Ok, Err, refl, subst, sym}
+use Rattle.std.proofs.Common.{◌≡◌, Bool, true, false, Option, Some, None, Ok, Err, subst}
 use Rattle.std.specs.Prelude.{IfOk, IfSome, if◌then◌else◌}
 use Rattle.snap_core.specs.Value.{Value, null, IsPlain}
-use Rattle.pointer_core.specs.Path.{Path}
-use Rattle.pointer_core.specs.declared.refusal.Rule.{Rule}
-use Rattle.pointer_core.specs.declared.refusal.Rule.TheVariants as rule
 use Rattle.type_table.specs.Table.{Catalog}
 use Rattle.type_core.specs.Making.{Outcome}
 use Rattle.type_core.specs.Sound.{IsSound}
-use Rattle.edit_core.specs.Labelled.{Labelled, bare}
+use Rattle.edit_core.specs.Labelled.{bare}
 use Rattle.tree_core.specs.Changed.{Changed}
-use Rattle.edit_core.specs.Ways.{way_to, part_at}
-use Rattle.tree_core.specs.Outcome.{◌>>=◌, or_refuse, seen_from}
+use Rattle.tree_core.specs.Outcome.{◌>>=◌}
 use Rattle.tree_core.specs.Write.{Write, remove, WritesPlain}
-use Rattle.tree_core.specs.Writing.{Tree, Target, written, node_no}
+use Rattle.tree_core.specs.Writing.{Tree, Target, written}
 use Rattle.tree_laws.proofs.Writes.{comes}
 use Rattle.eval_core.specs.Answer.{Answer}
 use Rattle.plain_answers.specs.Plainness.{IsPlainAnswer}
-use Rattle.answer_writing.specs.Giving.{Giving, given, sets, inserts, removes, with_value, Site, aim_at, place_path, is_of_value, after_place, unless_fault, value_taken, site_of, nodes_given, answer_given}
+use Rattle.answer_writing.specs.Giving.{Giving, given, sets, inserts, removes, with_value, Site, is_of_value, after_place, value_taken, site_of, nodes_given, answer_given}
 use Rattle.action_core.specs.Keeping.{GivesFine}
-use Rattle.answer_writing.specs.Taking.{Taking, plain_in, fault_in, answer_made}
-use Rattle.answer_writing.proofs.PlainValues.{value-plain, made-plain}
+use Rattle.answer_writing.specs.Taking.{plain_in}
+use Rattle.answer_writing.proofs.PlainValues.{value-plain}
+use Rattle.answer_writing.proofs.Places.{taken-plain, site-of}
 
 -- a plain value is written, with what the write makes of the tree
 pub record WritesValue (types : Catalog) (target : Target) (tree : Tree) (c : Changed) : Type 0 where
@@ -42,44 +39,10 @@ not-refused : {A : Type 0} (o : Outcome Changed) (rest : Outcome A) (x : A) → 
 not-refused (Ok c) rest x e = e
 not-refused {A} (Err r) rest x e = late (is_of_value r.rule) rest rest x (Err r) e (λ h. cc)
 
-no-fault : (path : Path) (o : Option Rule) (rest : Outcome Value) → IfOk rest IsPlain → IfOk (unless_fault path o rest) IsPlain
-no-fault path None rest h = h
-no-fault path (Some r) rest h = refused r
-  where
-    refused : (r : Rule) → IfOk (unless_fault path (Some r) rest) IsPlain
-    refused rule.Dead = tt
-    refused r = tt
-
-from-plain : (path : Path) (o : Outcome Value) → IfOk o IsPlain → IfOk (seen_from path o) IsPlain
-from-plain path (Ok v) h = h
-from-plain path (Err e) h = tt
-
 from-Ok : (o : Outcome Value) (v : Value) → IfOk o IsPlain → o ≡ Ok v → IsPlain v
 from-Ok o v h e = subst (λ (p : Outcome Value). IfOk p IsPlain) e h
 
 module _ (types : Catalog) (sound : IsSound types) (target : Target) (giving : Giving) (tree : Tree) (whole : IsPlain (bare tree.root)) where
-  taken-plain : (site : Site) → site.root ≡ tree.root → (x : Answer) → IsPlainAnswer x → IfOk (value_taken types site target.place giving x) IsPlain
-  taken-plain site same x fine =
-      let by : Taking = record { types = types; root = site.root } in
-      no-fault (place_path site target.place) (fault_in by x (aim_at types site target.place giving)) _
-      (from-plain (place_path site target.place) (answer_made by x (aim_at types site target.place giving))
-      (made-plain by sound (subst (λ (root : Labelled). IsPlain (bare root)) (sym same) whole) x fine (aim_at types site target.place giving)))
-
-  -- the site is one of the tree
-  then_site : {A : Type 0} (o : Outcome A) (next : A → Outcome Site) → ((x : A) → IfOk (next x) (λ (site : Site). site.root ≡ tree.root))
-      → IfOk (o >>= next) (λ (site : Site). site.root ≡ tree.root)
-  then_site (Ok x) next h = h x
-  then_site (Err e) next h = tt
-
-  site-root : IfOk (site_of target tree.root) (λ (site : Site). site.root ≡ tree.root)
-  site-root =
-      then_site (or_refuse (way_to (node_no target.place) tree.root) [] rule.Dead)
-      (λ way. or_refuse (part_at way tree.root) [] rule.Dead >>= (λ node. Ok (record { root = tree.root; way = way; node = node })))
-      (λ way. then_site (or_refuse (part_at way tree.root) [] rule.Dead) (λ node. Ok (record { root = tree.root; way = way; node = node })) (λ node. refl))
-
-  site-of : (site : Site) → site_of target tree.root ≡ Ok site → site.root ≡ tree.root
-  site-of site e = subst (λ (o : Outcome Site). IfOk o (λ (found : Site). found.root ≡ tree.root)) e site-root
-
   nodes-written : (x : Answer) → IsPlainAnswer x → (c : Changed) → nodes_given types target giving x tree ≡ Ok c → WritesValue types target tree c
   nodes-written x fine c e =
       let value : Site → Outcome Value = λ site. value_taken types site target.place giving x in
@@ -88,7 +51,7 @@ module _ (types : Catalog) (sound : IsSound types) (target : Target) (giving : G
       let inner = comes (value outer.from) write c outer.next in
       record {
         write = with_value giving inner.from;
-        plain = value-given giving inner.from (from-Ok (value outer.from) inner.from (taken-plain outer.from (site-of outer.from outer.first) x fine) inner.first);
+        plain = value-given giving inner.from (from-Ok (value outer.from) inner.from (taken-plain types sound target giving tree whole outer.from (site-of types sound target giving tree whole outer.from outer.first) x fine) inner.first);
         done = inner.next;
       }
 

@@ -1,5 +1,5 @@
 -- What a schema says of actions, by its types and by what each model has beside its properties.
-use Rattle.std.specs.Prelude.{ℕ, List, map, All, Option}
+use Rattle.std.specs.Prelude.{ℕ, List, map, Option}
 use Rattle.std.specs.List.{find}
 use Rattle.std.specs.Str.{bytes_eq}
 use Rattle.snap_core.specs.declared.number.ModelNo.{ModelNo}
@@ -7,13 +7,11 @@ use Rattle.type_table.specs.Table.{Catalog}
 use Rattle.type_core.specs.Sound.{IsSound}
 use Rattle.model_syntax.specs.Shown.{ShownAction, ShownMiddleware, ShownBehaviour}
 use Rattle.view_engine.specs.Saying.{Saying}
-use Rattle.plain_answers.specs.Plainness.{HasPlainConstants}
 use Rattle.expr_core.specs.Numbers.{parts_of}
-use Rattle.expr_core.specs.Plain.{HavePlainConstants}
+use Rattle.expr_core.specs.Plain.{HavePlainConstants, HavePlainActions}
 use Rattle.expr_core.specs.Schema.{views_in}
 use Rattle.schema_views.specs.Saying.{saying_by}
 use Rattle.action_core.specs.Behaving.{Behaving}
-use Rattle.plain_answers.specs.EachExpression.{HoldsInBlock}
 use Rattle.action_laws.specs.Laws.{IsPlainBehaving}
 
 -- the action of a name of a model, if the model has one
@@ -35,13 +33,6 @@ behaving_by types behaviours =
       action_of = action_by behaviours;
       middleware_of = middleware_by behaviours;
     }
-
--- the constants in the body of an action are plain, and so in all actions of each model
-abbrev pub HasPlainAction : ShownAction → Type 0
-HasPlainAction a = HoldsInBlock HasPlainConstants a.body
-
-abbrev pub HavePlainActions : List ShownBehaviour → Type 0
-HavePlainActions behaviours = All (λ (b : ShownBehaviour). All HasPlainAction b.actions) behaviours
 
 -- A schema whose types have no fault, and whose views and actions have plain constants, behaves plainly.
 abbrev pub SchemasBehavePlainly : Type 0

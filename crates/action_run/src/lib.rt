@@ -10,9 +10,9 @@
 #![tactic(auto)]
 
 mod binding;
+mod calling;
 mod guarding;
-mod run;
 mod running;
 
 pub use action_steps::Callee;
-pub use run::run;
+pub use calling::run;

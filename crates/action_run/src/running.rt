@@ -58,19 +58,19 @@ pub fn run_block<L: Ledger>(
 #[cycle(run)]
 fn run_statements<L: Ledger>(
     acting: &Acting<'_>,
-    statements: &[Stmt],
+    listed: &[Stmt],
     env: &mut Env,
     tree: &mut Tree,
     counted: &mut u32,
     steps: &mut Steps<L>,
 ) -> Result<(), RunError>
-    requires constants { HoldsInBlock HasPlainConstants (statements (map stmt_shown statements.now)) }
+    requires constants { HoldsInBlock HasPlainConstants (statements (map stmt_shown listed.now)) }
     requires bound { IsPlainEnv (env_of env.old) }
-    ensures did { Acts (λ u. u) result (ran_block (acting_of acting.now) (statements (map stmt_shown statements.now)) (env_of env.old))
+    ensures did { Acts (λ u. u) result (ran_block (acting_of acting.now) (statements (map stmt_shown listed.now)) (env_of env.old))
         (point (state tree.old) counted.old steps.old) (point (state tree.new) counted.new steps.new) }
     ensures kept { take (length env.old.bindings) env.new.bindings ≡ env.old.bindings }
 {
-    for statement in statements {
+    for statement in listed {
         count(acting.frame, counted)?;
         run_statement(&*acting, statement, env, tree, counted, steps)?;
     }

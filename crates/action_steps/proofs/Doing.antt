@@ -124,9 +124,7 @@ acts-looks {T} {A} seen r said p is = record {
 
 refusal_outcome : {T A : Type 0} (seen : T → A) (e : RunError) (path : Path) (by : Rule) → IsRefusal e path by → IsOutcome {T = T} seen (Err e) (refuse path by)
 refusal_outcome seen halts.Memory path by is = tt
-refusal_outcome {T} {A} seen (halts.Refused r) path by is =
-    let refused : Refusal → Outcome A = λ q. Err (refused_as q) in
-    ap refused (sym is)
+refusal_outcome {T} {A} seen (halts.Refused r) path by is = subst (λ (q : Refusal). refuse {A = A} path by ≡ Err (refused_as q)) (sym is) refl
 
 pub acts-refuses : {T A : Type 0} (seen : T → A) (e : RunError) (path : Path) (by : Rule) (p : Point) → IsRefusal e path by
     → Acts {T = T} {A = A} seen (Err e) (refuses path by) p p
@@ -194,12 +192,12 @@ acts-taken-back {T} seen halts.Memory act a b did = record {
 }
 acts-taken-back {T} {A} seen (halts.Refused r) act a b did = record {
   came = λ tried met.
-      let s : State = state_at a tried met in
-      let t : State = (act s).state in
-      let h = did.came tried met in
-      let back : Stands a (back_at a b) (spent met) (taken_back a.tree t) = record { tree = ap (given_back a.tree) h.1.tree; counted = h.1.counted; ticks = h.1.ticks } in
-      subst (λ (ran : Ran A). Came {T = T} seen (Err (halts.Refused r)) ran (spent met) a (back_at a b))
-      (sym (atomic-refused act s t (refused_as r) (ap (λ o. came o t) h.0))) (refl, back);
+    let s : State = state_at a tried met in
+    let t : State = (act s).state in
+    let h = did.came tried met in
+    let back : Stands a (back_at a b) (spent met) (taken_back a.tree t) = record { tree = ap (given_back a.tree) h.1.tree; counted = h.1.counted; ticks = h.1.ticks } in
+    subst (λ (ran : Ran A). Came {T = T} seen (Err (halts.Refused r)) ran (spent met) a (back_at a b))
+    (sym (atomic-refused act s t (refused_as r) (ap (λ o. came o t) h.0))) (refl, back);
   back = record { calls = []; edited = tt; joined = refl; led = refl; later = did.back.later };
   rises = did.rises;
 }

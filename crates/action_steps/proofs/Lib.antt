@@ -1,4 +1,12 @@
 pub mod Doing
+pub mod PlainParts
+pub mod OneByOne
+pub mod Named
+pub mod Surrounding
+pub mod Reaching
+pub mod Names
+pub mod Starting
+pub mod Standing
 pub mod Evaluations
 pub mod PartsLeft
 pub mod ItemsRead

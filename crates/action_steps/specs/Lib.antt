@@ -1,4 +1,5 @@
 pub mod Doing
 pub mod Acting
+pub mod Beginning
 pub mod Parts
 pub mod Writes

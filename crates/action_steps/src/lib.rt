@@ -3,11 +3,14 @@
 #![tactic(auto)]
 
 mod acting;
+mod arguments;
 mod beginning;
+mod binding;
 mod clearing;
 mod layers;
 mod naming;
 mod parts;
+mod plainly;
 mod writes;
 mod writing;
 

@@ -1,4 +1,5 @@
 pub mod InTurn
 pub mod PlainValues
-pub mod Places
 pub mod Copies
+pub mod ItemsTaken
+pub mod Places

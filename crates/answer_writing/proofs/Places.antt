@@ -1,28 +1,36 @@
 -- Giving an answer goes over the value that is written for it, which is plain.
-use Rattle.std.proofs.Common.{◌≡◌, List, [], Bool, true, false, Option, Some, None, Ok, Err, refl, sym, ap, ◌∙◌, subst}
+use Rattle.std.proofs.Common.{◌≡◌, List, [], Bool, true, false, Option, Some, None, Result, Ok, Err, IsErrAnd, refl, sym, ap, ◌∙◌, subst}
 use Rattle.std.specs.Prelude.{IfOk, IfSome, if◌then◌else◌}
 use Rattle.snap_core.specs.Value.{Value, null, IsPlain}
+use Rattle.snap_core.specs.View.{view}
+use Rattle.snap_core.specs.declared.snap.Snap.{Snap}
 use Rattle.pointer_core.specs.Path.{Path}
 use Rattle.pointer_core.specs.declared.refusal.Rule.{Rule}
 use Rattle.pointer_core.specs.declared.refusal.Rule.TheVariants as rule
 use Rattle.type_table.specs.Table.{Catalog}
-use Rattle.type_core.specs.Making.{Outcome, Refused}
+use Rattle.type_core.specs.Making as making
+use Rattle.type_core.specs.Making.{Outcome}
+use Rattle.type_core.specs.Made.{refused_as}
 use Rattle.type_core.specs.Sound.{IsSound}
 use Rattle.edit_core.specs.Edit.{Turn}
 use Rattle.edit_core.specs.Labelled.{Labelled, bare}
 use Rattle.edit_core.specs.Ways.{way_to, part_at}
+use Rattle.tree_core.specs.declared.error.TreeError.{TreeError}
+use Rattle.tree_core.specs.declared.error.TreeError.TheVariants.{Memory, Refused}
+use Rattle.tree_core.specs.declared.place.Change.{Change}
+use Rattle.tree_core.specs.Answers.{Answers}
 use Rattle.tree_core.specs.Changed.{Changed}
-use Rattle.tree_core.specs.Outcome.{◌>>=◌, refuse, or_refuse, seen_from}
+use Rattle.tree_core.specs.Outcome.{◌>>=◌, or_refuse, seen_from}
 use Rattle.tree_core.specs.Write.{Write, WritesPlain}
 use Rattle.tree_core.specs.Writing.{Tree, Target, node_no, place_written, judged, written}
 use Rattle.eval_core.specs.Answer.{Answer}
 use Rattle.plain_answers.specs.Plainness.{IsPlainAnswer}
 use Rattle.answer_writing.specs.declared.manner.Manner.{Manner}
 use Rattle.answer_writing.specs.declared.manner.Manner.TheVariants as manner
-use Rattle.answer_writing.specs.Giving.{Giving, sets, inserts, removes, with_value, Site, aim_at, place_path, is_of_value, after_place, unless_fault, value_taken, site_of, nodes_given, answer_given, given}
+use Rattle.answer_writing.specs.Giving.{Giving, sets, inserts, with_value, Site, aim_at, place_path, is_of_value, after_place, unless_fault, value_taken, site_of, nodes_given, answer_given, given}
 use Rattle.answer_writing.specs.Taking.{Taking, plain_in, fault_in, answer_made}
 use Rattle.answer_writing.specs.View.{in_manner}
-use Rattle.answer_writing.specs.Written.{place_met, value_given}
+use Rattle.answer_writing.specs.Written.{unless_dead, place_met, value_given, ComesTo}
 use Rattle.answer_writing.proofs.InTurn.{IsLate, after-late, judged-late}
 use Rattle.answer_writing.proofs.PlainValues.{value-plain, made-plain}
 
@@ -46,6 +54,12 @@ met-first (Err e) next rest late = by_rule (is_of_value e.rule)
     by_rule : (b : Bool) → (if b then rest else Err e) ≡ (◌>>=◌ {A = Unit {0}} (if b then Ok tt else Err e) (λ met. rest))
     by_rule true = refl
     by_rule false = refl
+
+-- what stands at the end of a way, as the site that it makes
+pub site-then : (o : Option Labelled) (f : Labelled → Site) (next : Site → Outcome Value)
+    → (or_refuse o [] rule.Dead >>= (λ node. Ok (f node)) >>= next) ≡ (or_refuse o [] rule.Dead >>= (λ node. next (f node)))
+site-then None f next = refl
+site-then (Some node) f next = refl
 
 module _ (types : Catalog) (target : Target) (tree : Tree) where
   abbrev write : Giving → Value → Outcome Changed
@@ -72,9 +86,32 @@ module _ (types : Catalog) (target : Target) (tree : Tree) where
   value-written m x v w h e =
       given-first m x ∙ ap (λ (o : Outcome Value). o >>= write (in_manner m x)) h ∙ ap (λ (u : Write). written types target u tree) (sym e)
 
-  pub value-refused : (m : Manner) (x : Answer) (r : Refused) → value_given types target (in_manner m x) x tree (plain_in x) ≡ Err r
+  pub value-refused : (m : Manner) (x : Answer) (r : making.Refused) → value_given types target (in_manner m x) x tree (plain_in x) ≡ Err r
       → given types target (in_manner m x) tree ≡ Err r
   value-refused m x r h = given-first m x ∙ ap (λ (o : Outcome Value). o >>= write (in_manner m x)) h
+
+  refused-comes : (m : Manner) (x : Answer) (e : TreeError) → Answers {T = Snap} view (Err e) (value_given types target (in_manner m x) x tree (plain_in x))
+      → ComesTo (λ w. written types target w tree) (Err e) (given types target (in_manner m x) tree)
+  refused-comes m x Memory h = tt
+  refused-comes m x (Refused r) h = value-refused m x (refused_as r) h
+
+  -- what is refused as a value is refused as a change
+  pub handed_on : (m : Manner) (x : Answer) (e : TreeError) (result : Result Change TreeError) → IsErrAnd result (λ r. r ≡ e)
+      → Answers {T = Snap} view (Err e) (value_given types target (in_manner m x) x tree (plain_in x))
+      → ComesTo (λ w. written types target w tree) result (given types target (in_manner m x) tree)
+  handed_on m x e (Ok change) is h = absurd is
+  handed_on m x e (Err r) is h =
+      subst (λ (f : TreeError). ComesTo (λ w. written types target w tree) (Err f) (given types target (in_manner m x) tree)) (sym is) (refused-comes m x e h)
+
+  -- the value for an answer that holds nodes, along the way to its place's node
+  pub value-along : (giving : Giving) (x : Answer) (way : List Turn) → place_met types target giving tree ≡ Ok (tt {0}) → way_to (node_no target.place) tree.root ≡ Some way
+      → value_given types target giving x tree None
+      ≡ unless_dead (part_at way tree.root) (λ found. value_taken types (record { root = tree.root; way = way; node = found }) target.place giving x)
+  value-along giving x way met e =
+      ap (λ (o : Outcome (Unit {0})). o >>= (λ u. site_of target tree.root >>= (λ site. value_taken types site target.place giving x))) met
+      ∙ ap (λ (o : Option (List Turn)). or_refuse o [] rule.Dead >>= (λ w. or_refuse (part_at w tree.root) [] rule.Dead >>= (λ node. Ok (record { root = tree.root; way = w; node = node })))
+      >>= (λ site. value_taken types site target.place giving x)) e
+      ∙ site-then (part_at way tree.root) (λ node. record { root = tree.root; way = way; node = node }) (λ site. value_taken types site target.place giving x)
 
 -- The value that is written is plain.
 
@@ -135,9 +172,3 @@ module _ (types : Catalog) (sound : IsSound types) (target : Target) (giving : G
 pub write-plain : (m : Manner) (x : Answer) (v : Value) (w : Write) → w ≡ with_value (in_manner m x) v → IsPlain v → WritesPlain w
 write-plain manner.Set x v w e h = subst WritesPlain (sym e) h
 write-plain manner.Insert x v w e h = subst WritesPlain (sym e) h
-
--- what stands at the end of a way, as the site that it makes
-pub site-then : (o : Option Labelled) (f : Labelled → Site) (next : Site → Outcome Value)
-    → (or_refuse o [] rule.Dead >>= (λ node. Ok (f node)) >>= next) ≡ (or_refuse o [] rule.Dead >>= (λ node. next (f node)))
-site-then None f next = refl
-site-then (Some node) f next = refl

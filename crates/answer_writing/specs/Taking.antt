@@ -90,7 +90,7 @@ abbrev mutual
   fault_among by no_answers t held = None
   fault_among by (answer x xs) t held = or_later (fault_in by x (item_aim x t held)) (fault_among by xs t (drop 1 held))
 
--- What the type makes of an answer whose nodes are taken, its limits aside.
+-- What the type makes of an answer whose nodes are taken, the limits of the whole aside.
 
 -- the snapshot of a node
 abbrev pub node_value : Taking → NodeNo → Value
@@ -108,8 +108,8 @@ abbrev pub node_made : Taking → NodeNo → Option ModelNo → Outcome Value
 node_made by n (Some m) = identifier_made by n m
 node_made by n None = Ok (node_value by n)
 
--- What a type makes of a plain value in a list. Limits are judged of the whole, which is made once more where it is written:
--- a part that is too large by itself is taken as it is given.
+-- What a type makes of a plain value in a list. Limits are judged of the whole, which is made once more where it is
+-- written: a part that is too large by itself is taken as it is given.
 abbrev pub is_large : Rule → Bool
 is_large Rule.Large = true
 is_large rule = false

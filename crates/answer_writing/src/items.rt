@@ -1,7 +1,8 @@
 //! The items that an answer's items are written in the place of.
-ghost use Rattle.std.specs.Prelude.{◌≡◌, ℕ, drop};
+ghost use Rattle.std.specs.Prelude.{◌≡◌, ℕ, List, None, drop, slice_get, if◌then◌else◌};
 ghost use Rattle.std.specs.Option.{option_copied, option_map};
 ghost use Rattle.node_core.specs.View.{labelled, items};
+ghost use Rattle.edit_core.specs.Labelled.{Labelled as Held};
 ghost use Rattle.edit_core.specs.Template as template;
 ghost use Rattle.type_core.specs.Judging.{judged_by};
 ghost use Rattle.snap_core.specs.Value.{list, no_parts};
@@ -36,14 +37,27 @@ pub fn items_under<'a>(held: Option<&'a Labelled>) -> &'a [Labelled]
     }
 }
 
-#[tactic(auto, using(crate::proofs::Copies::held_left))]
 /// What stands at the index of an answer's item. No node stands at its own place in a list within a list.
 pub fn item_held<'a>(x: &Value, held: &'a [Labelled], i: usize) -> Option<&'a Labelled>
     ensures { (t : ℕ) → specs.item_aim (answer_of x.now) t (drop i (items held.now))
         ≡ record { type = t; held = option_map labelled (option_copied result) } }
 {
-    match x {
-        Value::Plain(_) | Value::Node(_) => held.get(i),
-        Value::Several(_) => None,
+    if are_several(x) {
+        None
+    } else {
+        at_index(held, i)
     }
+}
+
+fn at_index(held: &[Labelled], i: usize) -> Option<&Labelled>
+    ensures { option_copied result ≡ slice_get held.now i }
+{
+    held.get(i)
+}
+
+fn are_several(x: &Value) -> bool
+    ensures { (t : ℕ) (held : List Held) → specs.item_aim (answer_of x.now) t held
+        ≡ (if result then record { type = t; held = None } else record { type = t; held = slice_get held 0 }) }
+{
+    matches!(x, Value::Several(_))
 }

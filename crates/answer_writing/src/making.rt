@@ -25,7 +25,7 @@ use tree_core::{TreeError, refuse};
 use tree_reading::referred_by;
 use type_core::{MakeError, make};
 
-/// What the type of a place makes of an answer, its limits aside.
+/// What the type of a place makes of an answer, the limits of the whole aside.
 #[cycle(making)]
 pub fn make_answer(
     alloc: Global,
@@ -51,9 +51,14 @@ fn make_plain(alloc: Global, by: &Taking, value: &Snap, of: TypeNo) -> Result<Sn
     ensures { Answers view result (specs.plain_made (taking by.now) (view value.now) of.0) }
 {
     match make(alloc, by.types, of, Some(value)) {
-        Err(MakeError::Refused(Refusal {
-            rule: Rule::Large, ..
-        })) => Ok(value.clone_in(alloc)?),
+        Err(
+            MakeError::Refused(
+                Refusal {
+                    rule: Rule::Large,
+                    ..
+                },
+            ),
+        ) => Ok(value.clone_in(alloc)?),
         made => Ok(made?),
     }
 }
@@ -94,7 +99,8 @@ fn make_items(
 {
     let mut made = Parts::new(alloc);
     for i in 0..xs.len() {
-        let value = make_answer(alloc, by, &xs[i], of, item_held(&xs[i], held, i));
+        let x = &xs[i];
+        let value = make_answer(alloc, by, x, of, item_held(x, held, i));
         let value = under_index(i, value)?;
         made.push(value)?;
     }

@@ -49,12 +49,7 @@ fn snapshot_of(alloc: Global, by: &Taking, n: NodeNo) -> Result<Snap, AllocError
 }
 
 /// The identifier of a node of a model.
-fn make_identifier(
-    alloc: Global,
-    by: &Taking,
-    n: NodeNo,
-    m: ModelNo,
-) -> Result<Snap, TreeError>
+fn make_identifier(alloc: Global, by: &Taking, n: NodeNo, m: ModelNo) -> Result<Snap, TreeError>
     ensures { Answers view result (specs.identifier_made (taking by.now) n m) }
 {
     match node_of(by.root, n) {
@@ -99,11 +94,7 @@ fn identifier_of(
     }
 }
 
-fn identifier_under(
-    alloc: Global,
-    fields: &[LabelledField],
-    name: &str,
-) -> Result<Snap, AllocError>
+fn identifier_under(alloc: Global, fields: &[LabelledField], name: &str) -> Result<Snap, AllocError>
     ensures { IfOk result (λ value. view value ≡ ident_value (ident_of (value_at name.now (plain_fields fields.now)))) }
 {
     match entry_at(fields, name) {

@@ -61,7 +61,15 @@ pub fn value_at(
 {
     judge_place(alloc, types, to, manner, whole)?;
     match whole.root.way_to(alloc, to.place.node())? {
-        Some(way) => value_along(alloc, types, to.place, manner, answer, whole.root, way.as_slice()),
+        Some(way) => value_along(
+            alloc,
+            types,
+            to.place,
+            manner,
+            answer,
+            whole.root,
+            way.as_slice(),
+        ),
         None => Err(refuse(Pointer::new(alloc), Rule::Dead)),
     }
 }
@@ -74,7 +82,7 @@ fn judge_place(
     manner: Manner,
     whole: &Tree,
 ) -> Result<(), TreeError>
-    ensures { (x : Answer) → Answers (λ u. tt) result (place_met types.now (target to.now) (in_manner manner x) (tree whole.now)) }
+    ensures { (x : Answer) → Answers (λ u. tt {0}) result (place_met types.now (target to.now) (in_manner manner x) (tree whole.now)) }
 {
     match write_place(alloc, types, to, &change_by(manner, Snap::Null), whole) {
         Ok(_) => Ok(()),
@@ -85,7 +93,7 @@ fn judge_place(
 
 /// A refusal, unless its rule is judged of the value that is written.
 fn unless_of_value(refusal: Refusal) -> Result<(), TreeError>
-    ensures { Answers (λ u. tt) result (specs.after_place (Err (refused_as refusal)) (Ok tt)) }
+    ensures { Answers (λ u. tt {0}) result (specs.after_place (Err (refused_as refusal)) (Ok (tt {0}))) }
 {
     if is_of_value(&refusal.rule) {
         Ok(())
@@ -116,10 +124,17 @@ fn value_along(
     requires { IsPlainAnswer (answer_of answer.now) }
     ensures { let x = answer_of answer.now in
         Answers view result (unless_dead (part_at (nodes.way way.now) (nodes.labelled root.now)) (λ found.
-            specs.value_taken types.now (record { root = nodes.labelled root.now; way = nodes.way way.now; node = found }) place.now (in_manner manner x) x)) }
+        specs.value_taken types.now (record { root = nodes.labelled root.now; way = nodes.way way.now; node = found }) place.now (in_manner manner x) x)) }
 {
     match root.part_at(way) {
-        Some(node) => take(alloc, types, &Site { root, way, node }, place, manner, answer),
+        Some(node) => take(
+            alloc,
+            types,
+            &Site { root, way, node },
+            place,
+            manner,
+            answer,
+        ),
         None => Err(refuse(Pointer::new(alloc), Rule::Dead)),
     }
 }

@@ -58,4 +58,3 @@ pub fn copy_plains(alloc: Global, xs: &[Value]) -> Result<Items, AllocError>
     }
     Ok(values)
 }
-

@@ -55,7 +55,8 @@ fn fault_among(
     ensures { result ≡ specs.fault_among (taking by.now) (answers_of xs.now) of.0 (items held.now) }
 {
     for i in 0..xs.len() {
-        let fault = fault_in(alloc, by, &xs[i], of, item_held(&xs[i], held, i));
+        let x = &xs[i];
+        let fault = fault_in(alloc, by, x, of, item_held(x, held, i));
         if fault.is_some() {
             return fault;
         }

@@ -56,13 +56,13 @@ plain-given (part v vs) fine = (fine.0, plain-given vs fine.1)
 
 -- where there are none, it refuses the request
 pub refused-alone : (r : Refused) (after : State) (ps : List Patch) → ps ≡ [] → after_refusal r after ps ≡ Err r
-refused-alone r after [] none = ap (λ (x : Refused). Err x) (let e : r ≡ r = cc in e)
+refused-alone r after [] none = refl
 refused-alone r after (p ∷ ps) none = absurd cc
 
 -- where there are some, it stands beside them
 pub refused-beside : (r : Refused) (after : State) (ps : List Patch) → (ps ≡ [] → ⊥) → after_refusal r after ps ≡ Ok (record { after = after; fault = Some r })
-refused-beside r after [] some = absurd (some cc)
-refused-beside r after (p ∷ ps) some = cc
+refused-beside r after [] some = absurd (some refl)
+refused-beside r after (p ∷ ps) some = refl
 
 -- a run that was settled
 pub run-settled : (types : Catalog) (ran : Ran (Unit {0})) (fault : Option Refusal) (written now after : State) (staged : Staged) (result : Result Staged DocError)

@@ -1,5 +1,5 @@
 -- Nothing is kept of a failed atomic action.
-use Rattle.std.proofs.Common.{◌≡◌, ℕ, List, [], ◌∷◌, Some, None, Ok, Err, map, sym, ap, subst, ◌∙◌}
+use Rattle.std.proofs.Common.{◌≡◌, ℕ, List, [], ◌∷◌, Some, None, Ok, Err, map, refl, sym, ap, ◌∙◌}
 use Rattle.std.specs.Prelude.{IsErr}
 use Rattle.snap_core.specs.Value.{Items}
 use Rattle.snap_core.specs.declared.number.NodeNo.{NodeNo}
@@ -31,7 +31,7 @@ none-beside r after (p ∷ ps) acted none is = absurd cc
 -- a run that leaves no patch where it is refused
 no-fault : (o : Outcome (Unit {0})) (after : State) (acted : Acted) → (IsErr o → patches_of after ≡ []) → after_outcome o after ≡ Ok acted → acted.fault ≡ None
 no-fault (Ok done) after acted none is = cc
-no-fault (Err r) after acted none is = none-beside r after (patches_of after) acted (none tt) is
+no-fault (Err r) after acted none is = none-beside r after (patches_of after) acted (none refl) is
 
 pub all-or-nothing : FailedAtomicsAreNothing → AtomicsKeepAllOrNothing
 all-or-nothing law types behaviours path name args before n acted rest settled at atomic is =

@@ -9,7 +9,6 @@ pub mod Replying
 pub mod Viewing
 pub mod Called
 pub mod Spelled
-pub mod Acted
 pub mod Hosting
 pub mod OneDocument
 pub mod SoundChanges

@@ -21,7 +21,6 @@ use Rattle.host_core.specs.Calling.{Call, Calls}
 use Rattle.host_core.specs.Keeping.{unrefused}
 use Rattle.host_core.specs.Reading.{Read, Lists, value_in}
 use Rattle.host_core.specs.Sound.{IsPlainSchema, IsSoundSnapshot, StaysSound, ChangesTell}
-use Rattle.host_core.proofs.Acted.{acts-fully}
 use Rattle.host_core.proofs.Kept.{unrefused-done}
 use Rattle.host_core.proofs.Spelled.{calls-plain, patches-plain, spelled-plain}
 
@@ -100,8 +99,8 @@ acts-tell visit snapshot done plainly sound (s, copy, called, calls, is) = subst
   by (Err reply) calls = (subst (IsSoundSnapshot visit.types) (sym copy.shows) sound, inl copy.shows)
   by (Ok call) calls =
       act-tells visit.types snapshot s (acted_on visit.types visit.behaviours call.path call.name call.given s) copy.shows sound
-      (λ acted e. acts-fully visit.types visit.behaviours plainly call.path call.name call.given (calls-plain visit.request.body call calls) s
-      (copy-sound visit.types snapshot s copy sound) acted e)
+      (λ acted e. changes-lead.by_action visit.types visit.behaviours call.path call.name call.given s acted plainly
+      (copy-sound visit.types snapshot s copy sound) (calls-plain visit.request.body call calls) e)
 
 pub changes-tell : ChangesTell
 changes-tell = record { by_snapshot = snapshot-tells; by_patches = patches-tell; by_action = acts-tell }

@@ -22,7 +22,6 @@ use Rattle.host_core.specs.Calling.{Call, Calls}
 use Rattle.host_core.specs.Keeping.{unrefused}
 use Rattle.host_core.specs.Reading.{Read, Lists, value_in}
 use Rattle.host_core.specs.Sound.{IsPlainSchema, TellsChange}
-use Rattle.host_core.proofs.Acted.{acts-fully}
 use Rattle.host_core.proofs.Kept.{unrefused-done}
 use Rattle.host_core.proofs.SoundChanges.{copy-sound, unrefused-full}
 use Rattle.host_core.proofs.Spelled.{calls-plain, patches-plain, spelled-plain}
@@ -95,5 +94,5 @@ acts-settled visit plainly v done settled (s, copy, called, calls, is) = subst (
   by (Err reply) calls = same-settled visit.types v s reply (stays s reply) copy settled refl
   by (Ok call) calls =
       act-settled visit.types v s (acted_on visit.types visit.behaviours call.path call.name call.given s) plainly.sound copy settled
-      (λ acted e. acts-fully visit.types visit.behaviours plainly call.path call.name call.given (calls-plain visit.request.body call calls) s
-      (copy-sound visit.types v s copy settled.sound) acted e)
+      (λ acted e. changes-lead.by_action visit.types visit.behaviours call.path call.name call.given s acted plainly
+      (copy-sound visit.types v s copy settled.sound) (calls-plain visit.request.body call calls) e)

@@ -122,7 +122,7 @@ pub items-ordered : (v : Value) → IsOrdered v → IfSome (items_in v) AreOrder
 items-ordered (list a ps) ordered = ordered
 items-ordered _ ordered = tt
 
-fields-ordered : (v : Value) → IsOrdered v → IfSome (fields_in v) AreOrderedMembers
+pub fields-ordered : (v : Value) → IsOrdered v → IfSome (fields_in v) AreOrderedMembers
 fields-ordered (dict a ms) ordered = ordered
 fields-ordered _ ordered = tt
 

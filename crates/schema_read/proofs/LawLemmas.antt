@@ -6,7 +6,6 @@ use Rattle.snap_core.specs.Value.{Value}
 use Rattle.pointer_core.specs.Path.{Path}
 use Rattle.pointer_core.specs.declared.schema_rule.SchemaRule.{SchemaRule}
 use Rattle.snap_json.specs.Loose.{loosely}
-use Rattle.type_table.specs.Table.{Catalog}
 use Rattle.type_core.specs.Sound.{TypesAreOne}
 use Rattle.type_draft.specs.Faults.{HasFault, IsFirstFault}
 use Rattle.schema_form.specs.declared.form.SchemaForm.{SchemaForm}

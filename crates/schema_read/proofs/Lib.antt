@@ -2,7 +2,8 @@ pub mod Faulty
 pub mod Filling
 pub mod Growing
 pub mod LawLemmas
-pub mod PlainViews
+pub mod PlainForms
+pub mod PlainParts
 pub mod Refusals
 pub mod Single
 pub mod Straying

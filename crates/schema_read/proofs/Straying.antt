@@ -6,7 +6,7 @@ use Rattle.std.proofs.lemmas.Bool.Decides.{Decides-ltb}
 use Rattle.pointer_core.specs.declared.schema_rule.SchemaRule.{SchemaRule}
 use Rattle.pointer_core.specs.declared.schema_rule.SchemaRule.TheVariants.{Shape, Name, Twice, Arguments, Depth, History, Identifier, Target, Union, Default}
 use Rattle.type_table.specs.Table.{Table}
-use Rattle.type_draft.specs.Faults.{HasFault, pass_of, Precedes, IsFirstFault}
+use Rattle.type_draft.specs.Faults.{HasFault, pass_of, IsFirstFault}
 use Rattle.schema_form.specs.declared.form.Astray.{Astray}
 use Rattle.schema_form.specs.declared.form.SchemaForm.{SchemaForm}
 use Rattle.schema_form.specs.declared.form.ModelForm.{ModelForm}

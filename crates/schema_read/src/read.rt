@@ -3,7 +3,7 @@ ghost use Rattle.snap_core.specs.Value.{IsOrdered};
 ghost use Rattle.snap_core.specs.View.{view};
 ghost use Rattle.snap_json.specs.Loose.{loosely};
 ghost use Rattle.model_syntax.specs.Shown.{behaviour_shown};
-ghost use Rattle.expr_core.specs.Plain.{HavePlainConstants};
+ghost use Rattle.expr_core.specs.Plain.{HavePlainConstants, HavePlainActions, HavePlainConditions};
 ghost use Rattle.schema_form.specs.Form.{IsWhole};
 ghost use Rattle.schema_read.specs.Schema.{Means, IsFirstOf, IsSchema, IsFirst, Spells, HasFirst};
 ghost use Rattle.schema_read.specs.Refusal.{IfSyntax, IfRefused};
@@ -71,6 +71,8 @@ fn refused(fault: Fault) -> SchemaError
 fn schema_of(alloc: Global, form: SchemaForm) -> Result<Schema, SchemaError>
     requires whole { IsWhole form }
     requires plain { HavePlainConstants (map (λ b. (behaviour_shown b).views) form.behaviours) }
+    requires plain_actions { HavePlainActions (map behaviour_shown form.behaviours) }
+    requires plain_conditions { HavePlainConditions (map behaviour_shown form.behaviours) }
     ensures ok { IfOk result (Means form) }
     ensures syntax { IfSyntax result ⊥ }
     ensures refused { IfRefused result

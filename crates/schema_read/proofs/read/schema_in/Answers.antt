@@ -2,14 +2,24 @@ use Rattle.std.proofs.Common.{sym, subst}
 use Rattle.snap_core.specs.View.{view}
 use Rattle.expr_form.specs.declared.fault.Fault.{Fault}
 use Rattle.schema_read.specs.Schema.{IsFirst, IsFirstOf, in_file, in_form}
-use Rattle.schema_read.proofs.PlainViews.{form-plain}
+use Rattle.schema_read.proofs.PlainForms.{form-views-plain, form-actions-plain, form-conditions-plain}
 use Rattle.schema_read.proofs.Refusals.{IfRefused-weaker}
 use Rattle.schema_read.proofs.read.schema_in.Goals as goal
 
 pub schema_of-requires-clause-plain : goal.schema_of-requires-clause-plain
 schema_of-requires-clause-plain c =
     let read = c.in-Ok.ensures in
-    form-plain (view c.args.file.now) c.in-Ok.form c.requires read.finds read.form
+    form-views-plain (view c.args.file.now) c.in-Ok.form c.requires read.finds read.form
+
+pub schema_of-requires-clause-plain_actions : goal.schema_of-requires-clause-plain_actions
+schema_of-requires-clause-plain_actions c =
+    let read = c.in-Ok.ensures in
+    form-actions-plain (view c.args.file.now) c.in-Ok.form c.requires read.finds read.form
+
+pub schema_of-requires-clause-plain_conditions : goal.schema_of-requires-clause-plain_conditions
+schema_of-requires-clause-plain_conditions c =
+    let read = c.in-Ok.ensures in
+    form-conditions-plain (view c.args.file.now) c.in-Ok.form c.requires read.finds read.form
 
 pub returns-in-Ok-clause-refused : goal.returns-in-Ok-clause-refused
 returns-in-Ok-clause-refused c =
