@@ -7,6 +7,7 @@ pub mod Reaching
 pub mod Names
 pub mod Starting
 pub mod Standing
+pub mod Guarding
 pub mod Evaluations
 pub mod PartsLeft
 pub mod ItemsRead

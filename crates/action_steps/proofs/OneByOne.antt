@@ -12,7 +12,6 @@ use Rattle.plain_answers.specs.Plainness.{IsPlainAnswer, ArePlainAnswers}
 use Rattle.action_core.specs.Beginning as begun
 use Rattle.action_core.specs.Beginning.{Bound, bound_before, argument_of, arguments_of, parameter_target}
 use Rattle.action_steps.specs.Beginning.{argument_as, bound_as}
-use Rattle.action_steps.specs.declared.arguments.Argument.{Argument}
 use Rattle.action_steps.specs.declared.arguments.Given.{Given}
 
 -- arguments before those that are left, if there are such

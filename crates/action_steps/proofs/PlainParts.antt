@@ -12,8 +12,8 @@ use Rattle.snap_core.specs.declared.snap.Snap.{Snap}
 use Rattle.snap_core.specs.declared.snap.Snap as snap
 use Rattle.answer_ops.specs.View.{answer_of, answers_of}
 use Rattle.answer_ops.specs.declared.value.Value as answers
-use Rattle.action_core.specs.Taking.{plain_in, plains_in}
-use Rattle.action_laws.proofs.Plain.{values-plain}
+use Rattle.answer_writing.specs.Taking.{plain_in, plains_in}
+use Rattle.answer_writing.proofs.PlainValues.{values-plain}
 
 -- values that were made, before those that are left, if all of those are plain
 abbrev pub made_before : List Value → Option Items → Option Items

@@ -1,5 +1,5 @@
 -- What arguments are, as definitions see them, and the names that are bound in an action.
-use Rattle.std.specs.Prelude.{List, ◌++◌, Ok}
+use Rattle.std.specs.Prelude.{◌++◌, Ok}
 use Rattle.pointer_core.specs.Path.{Path}
 use Rattle.pointer_core.specs.declared.refusal.Rule.TheVariants as rule
 use Rattle.type_table.specs.Table.{Catalog}

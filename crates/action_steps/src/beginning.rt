@@ -9,6 +9,7 @@ ghost use Rattle.plain_answers.specs.Plainness.{ArePlainAnswers, IsPlainEnv, Has
 ghost use Rattle.plain_answers.specs.EachExpression.{HoldsInBlock};
 ghost use Rattle.action_core.specs.Behaving.{node_path};
 ghost use Rattle.action_core.specs.Beginning.{action_under, begun_by, frame_of};
+ghost use Rattle.action_laws.specs.Laws.{IsPlainBehaving};
 ghost use Rattle.action_steps.specs.Acting.{behaving_of, callee_of, env_of, Begins};
 
 use crate::acting::refused;
@@ -67,11 +68,21 @@ pub fn begin<'a>(
         args: callee.args.as_slice(),
     };
     let env = bind(alloc, schema.types(), tree, &frame, &called)?;
+    behaves_plainly(schema);
     Ok(Begun {
         frame,
         body: schema.action_body(action),
         env,
     })
+}
+
+// The types of a schema are sound, and its constants are plain. It does nothing.
+fn behaves_plainly(schema: &Schema)
+    ensures { IsPlainBehaving (behaving_of schema.now) }
+{
+    let root = schema.types().root();
+    let _ = schema.view(root, "");
+    let _ = schema.action(root, "");
 }
 
 /// The frame of a callee: the path of its node, and its name.

@@ -2,7 +2,6 @@
 #![tactic(auto, unfolding(view_engine::specs::TreeSight::sight_of))]
 
 ghost use Rattle.std.specs.Prelude.{◌≡◌, ◌++◌, IfOk, map, option_map};
-ghost use Rattle.list_core.specs.Outcome.{Gives};
 ghost use Rattle.answer_ops.specs.View.{answer_of, answers_of};
 ghost use Rattle.eval_core.specs.Asking.{bound_at};
 ghost use Rattle.live_tree.specs.Contents.{state};

@@ -13,9 +13,10 @@ ghost use Rattle.action_core.specs.Layers.{layers_of, layers_along, own_layers, 
 ghost use Rattle.action_steps.specs.Doing.{Acts, point};
 ghost use Rattle.action_steps.specs.Acting.{behaving_of, callee_of, layer_of};
 
+use crate::acting::Acting;
 use crate::beginning::Callee;
 use crate::binding::own_names;
-use crate::parts::{Framed, holds};
+use crate::parts::condition;
 use edit_core::Kind;
 use expr_core::Schema;
 use expr_syntax::{Expr, Steps};
@@ -159,10 +160,12 @@ pub fn admits<L: Ledger>(
         (point (state tree.now) counted steps.old) (point (state tree.now) counted steps.new) }
 {
     let env = own_names(alloc, tree, guard.node)?;
-    let framed = Framed {
+    let acting = Acting {
         alloc,
         schema,
+        running: &[],
         frame: guard.frame,
+        room: 0,
     };
-    holds(&framed, guard.condition, &env, tree, steps)
+    condition(&acting, guard.condition, &env, tree, steps)
 }

@@ -2,7 +2,7 @@
 ghost use Rattle.std.specs.Prelude.{◌≡◌, IfOk, option_map};
 ghost use Rattle.snap_core.specs.View.{view, items_view};
 ghost use Rattle.answer_ops.specs.View.{answer_of, answers_of};
-ghost use Rattle.action_core.specs.Taking.{plain_in, plains_in};
+ghost use Rattle.answer_writing.specs.Taking.{plain_in, plains_in};
 
 use answer_ops::Value;
 use list_core::Parts;

@@ -1,8 +1,8 @@
-use Rattle.std.proofs.Common.{◌≡◌, map, drop, length, None, Some, sym, ◌∙◌, ap}
+use Rattle.std.proofs.Common.{map, sym, ◌∙◌, ap}
 use Rattle.std.proofs.Math.ListN.{drop_of_length-le}
 use Rattle.snap_core.specs.View.{view}
 use Rattle.answer_ops.specs.View.{answers_of}
-use Rattle.action_core.specs.Taking.{plains_in}
+use Rattle.answer_writing.specs.Taking.{plains_in}
 use Rattle.action_steps.proofs.PlainParts.{made_before, before-end, plain-next, plain-not}
 use Rattle.action_steps.proofs.plainly.+plainly.Goals as goal
 

@@ -2,7 +2,7 @@
 use Rattle.std.proofs.Common.{◌≡◌, map, drop}
 use Rattle.snap_core.specs.View.{view}
 use Rattle.answer_ops.specs.View.{answers_of}
-use Rattle.action_core.specs.Taking.{plains_in}
+use Rattle.answer_writing.specs.Taking.{plains_in}
 use Rattle.action_steps.proofs.PlainParts.{made_before}
 use Rattle.action_steps.proofs.plainly.+plainly.Given as goal
 
