@@ -10,6 +10,7 @@ use Rattle.tree_core.specs.declared.place.Change.{Change}
 use Rattle.tree_core.specs.declared.place.Place.{Place}
 use Rattle.tree_core.specs.declared.error.TreeError.{TreeError}
 use Rattle.tree_core.specs.declared.error.TreeError.TheVariants as errors
+use Rattle.tree_core.specs.Answers.{Answers}
 use Rattle.tree_core.specs.Changed.{Changed}
 use Rattle.tree_core.specs.Outcome.{◌>>=◌}
 use Rattle.tree_core.specs.Recorded as recorded
@@ -162,3 +163,9 @@ pub named-unsuited : (types : Catalog) (running : List NodeNo) (w : core.Naming)
     → core.unsuited running w.node path t.root ≡ core.named_written types running w t
 named-unsuited types running w t path is same =
     ap (λ (p : Path). core.given_at types running w p t None) same ∙ ap (core.given_at types running w (node_path w.node t.root ++ w.tokens) t) (sym is)
+
+-- what a node isn't cleared for
+pub removals-refused : (frame : Path) (error : TreeError) (e : RunError) (outcome : Outcome (List Place)) → IsToldIn frame error e
+    → Answers {T = List Place} (λ x. x) (Err error) outcome → RefusesIn frame e outcome
+removals-refused frame (errors.Refused r) e outcome told answers = refuses-told frame r e outcome told answers
+removals-refused frame errors.Memory e outcome told answers = memory-told frame e outcome told

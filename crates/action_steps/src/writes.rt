@@ -14,7 +14,7 @@ use crate::naming::{
     entry_put, item_inserted, item_pushed, item_replaced, part_dropped, property_set,
     snapshot_applied,
 };
-use crate::parts::{three_parts, two_parts, value};
+use crate::parts::{ThreeParts, three_parts, two_parts, value};
 use crate::writing::{told_in, write_named};
 use expr_syntax::{Expr, Steps};
 use live_tree::Tree;
@@ -63,7 +63,8 @@ pub fn put<L: Ledger>(
 {
     let parts = three_parts(acting, on, key, to, env, &*tree, steps)?;
     let n = node_in(acting.frame, &parts.first)?;
-    let naming = entry_put(acting.alloc, n, &parts.second, parts.third)?;
+    let ThreeParts { second, third, .. } = parts;
+    let naming = entry_put(acting.alloc, n, &second, third)?;
     write_named(acting, naming, tree)
 }
 
@@ -108,7 +109,8 @@ pub fn insert<L: Ledger>(
 {
     let parts = three_parts(acting, on, index, to, env, &*tree, steps)?;
     let n = node_in(acting.frame, &parts.first)?;
-    let naming = item_inserted(acting.alloc, n, &parts.second, parts.third)?;
+    let ThreeParts { second, third, .. } = parts;
+    let naming = item_inserted(acting.alloc, n, &second, third)?;
     write_named(acting, naming, tree)
 }
 
@@ -131,7 +133,8 @@ pub fn replace<L: Ledger>(
 {
     let parts = three_parts(acting, on, index, to, env, &*tree, steps)?;
     let n = node_in(acting.frame, &parts.first)?;
-    let naming = item_replaced(acting.alloc, n, &parts.second, parts.third)?;
+    let ThreeParts { second, third, .. } = parts;
+    let naming = item_replaced(acting.alloc, n, &second, third)?;
     write_named(acting, naming, tree)
 }
 
