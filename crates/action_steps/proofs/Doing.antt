@@ -192,12 +192,12 @@ acts-taken-back {T} seen halts.Memory act a b did = record {
 }
 acts-taken-back {T} {A} seen (halts.Refused r) act a b did = record {
   came = λ tried met.
-    let s : State = state_at a tried met in
-    let t : State = (act s).state in
-    let h = did.came tried met in
-    let back : Stands a (back_at a b) (spent met) (taken_back a.tree t) = record { tree = ap (given_back a.tree) h.1.tree; counted = h.1.counted; ticks = h.1.ticks } in
-    subst (λ (ran : Ran A). Came {T = T} seen (Err (halts.Refused r)) ran (spent met) a (back_at a b))
-    (sym (atomic-refused act s t (refused_as r) (ap (λ o. came o t) h.0))) (refl, back);
+      let s : State = state_at a tried met in
+      let t : State = (act s).state in
+      let h = did.came tried met in
+      let back : Stands a (back_at a b) (spent met) (taken_back a.tree t) = record { tree = ap (given_back a.tree) h.1.tree; counted = h.1.counted; ticks = h.1.ticks } in
+      subst (λ (ran : Ran A). Came {T = T} seen (Err (halts.Refused r)) ran (spent met) a (back_at a b))
+      (sym (atomic-refused act s t (refused_as r) (ap (λ o. came o t) h.0))) (refl, back);
   back = record { calls = []; edited = tt; joined = refl; led = refl; later = did.back.later };
   rises = did.rises;
 }

@@ -15,6 +15,8 @@ use Rattle.eval_core.specs.Scope.{Scope, Env, gives, judged}
 use Rattle.eval_core.specs.Walking.{Item, given, standing, read_item, walked, gathered, Turn, on, turned, walk_over, start}
 use Rattle.answer_ops.specs.View.{answer_of, answers_from}
 use Rattle.answer_ops.specs.declared.value.Value.{Value}
+use Rattle.answer_ops.specs.declared.value.Value as valued
+use Rattle.answer_ops.proofs.Views.{answer-Several}
 use Rattle.plain_answers.specs.Plainness.{IsPlainAnswer, HasPlainConstants, IsPlainEnv}
 use Rattle.plain_answers.proofs.Giving as giving
 use Rattle.plain_answers.proofs.Giving.{Gives, going_on}
@@ -177,7 +179,7 @@ items-ended t s e env error way h =
             counted = tt;
             ticks = rw other_run.cost at k.did.ticks;
           };
-          told = (k.told.0, (refl, k.told.2));
+          told = (k.told.0, refl, k.told.2);
         }
 
 -- What is read of plain answers is plain.
@@ -197,3 +199,20 @@ pub items-plain : (s : Scope) → IsPlainScope s → (e : Expression) (env : Env
 items-plain s fine e env h =
     going_on IsPlainAnswer (All IsPlainAnswer) (evaluated s e env) (items_read s) h
     (λ x good. going_on ArePlainItems (All IsPlainAnswer) (walked s x) (all_read s) (walking s fine x good) (λ is items. all-plain s fine is items))
+
+-- Several answers, one by one.
+
+from-injective : (xs ys : List Answer) → answers_from xs ≡ answers_from ys → xs ≡ ys
+from-injective [] [] is = refl
+from-injective [] (y ∷ ys) is = cc
+from-injective (x ∷ xs) [] is = cc
+from-injective (x ∷ xs) (y ∷ ys) is =
+    let first : x ≡ y = cc in
+    let rest : answers_from xs ≡ answers_from ys = cc in
+    ap (λ z. z ∷ xs) first ∙ ap (λ zs. y ∷ zs) (from-injective xs ys rest)
+
+pub several-listed : (x : Value) (values : List Value) (xs : List Answer) → x ≡ valued.Several values → answer_of x ≡ several (answers_from xs) → xs ≡ map answer_of values
+several-listed x values xs is seen =
+    let same : several (answers_from xs) ≡ several (answers_from (map answer_of values)) = sym seen ∙ ap answer_of is ∙ answer-Several values in
+    let inner : answers_from xs ≡ answers_from (map answer_of values) = cc in
+    from-injective xs (map answer_of values) inner

@@ -1,10 +1,11 @@
 //! Clearing a node: its items or its entries are removed one by one.
-ghost use Rattle.std.specs.Prelude.{◌≡◌, ℕ, map};
+ghost use Rattle.std.specs.Prelude.{◌≡◌, ℕ, None};
 ghost use Rattle.list_core.specs.Outcome.{Gives};
 ghost use Rattle.edit_core.specs.Labelled.{branches, entries};
 ghost use Rattle.node_core.specs.View.{labelled, items, fields};
 ghost use Rattle.live_tree.specs.Contents.{state};
 ghost use Rattle.tree_core.specs.Answers.{Answers};
+ghost use Rattle.tree_core.specs.Written.{target};
 ghost use Rattle.action_core.specs.Running.{removes_all};
 ghost use Rattle.action_core.specs.Statements as specs;
 ghost use Rattle.action_steps.specs.Acting.{acting_of};
@@ -29,14 +30,21 @@ pub fn remove_all(acting: &Acting<'_>, places: &[Place], tree: &mut Tree) -> Res
         (point (state tree.old) counted steps) (point (state tree.new) counted steps) }
 {
     for place in places {
-        let to = Target {
-            running: acting.running,
-            place,
-            named: None,
-        };
+        let to = target_at(acting.running, place);
         give(acting, &to, Giving::Remove, tree)?;
     }
     Ok(())
+}
+
+/// A place that is named by itself, written on behalf of running nodes.
+fn target_at<'a>(running: &'a [NodeNo], place: &'a Place) -> Target<'a>
+    ensures { target result ≡ record { running = running.now; place = place.now; named = None } }
+{
+    Target {
+        running,
+        place,
+        named: None,
+    }
 }
 
 /// The places of a node that are removed where it is cleared; refused `dead`, and `kind` where it is a model.

@@ -85,20 +85,22 @@ pub fn items<L: Ledger>(
     ensures plain { IfOk result (λ xs. All IsPlainAnswer (map answer_of xs)) }
 {
     values_are_plain(tree, acting.schema);
-    let walked = walked_items(acting, e, env, tree, steps)?;
+    let mut counted = 0;
+    let walked = walked_items(acting, e, env, &mut counted, tree, steps)?;
     Ok(listed(acting.alloc, walked))
 }
 
+/// All that is walked of what an expression gives, as one answer.
 fn walked_items<L: Ledger>(
     acting: &Acting<'_>,
     e: &Expr,
     env: &Env,
+    counted: &mut u32,
     tree: &Tree,
     steps: &mut Steps<L>,
 ) -> Result<Value, RunError>
-    ensures { (counted : ℕ) → EvaluatesIn acting.now tree.now answer_of result (λ s. items_evaluated s (shown e.now) (env_of env.now)) (course 0 counted steps.old steps.new) }
+    ensures { EvaluatesIn acting.now tree.now answer_of result (λ s. items_evaluated s (shown e.now) (env_of env.now)) (course counted.old counted.new steps.old steps.new) }
 {
-    let mut counted = 0;
     let viewed = Viewed {
         schema: acting.schema,
     };
@@ -107,7 +109,13 @@ fn walked_items<L: Ledger>(
         env,
         frame: acting.frame,
     };
-    Views::new().items(acting.alloc, tree, &viewed, &framed, &mut counted, steps)
+    let given = Views::new().items(acting.alloc, tree, &viewed, &framed, counted, steps);
+    let Framed {
+        expr: _,
+        env: _,
+        frame: _,
+    } = framed;
+    given
 }
 
 /// Several answers, one by one.
@@ -130,21 +138,22 @@ pub struct TwoParts {
 /// What two expressions give.
 pub fn two_parts<L: Ledger>(
     acting: &Acting<'_>,
-    es: (&Expr, &Expr),
+    first: &Expr,
+    second: &Expr,
     env: &Env,
     tree: &Tree,
     steps: &mut Steps<L>,
 ) -> Result<TwoParts, RunError>
-    requires constants { HasPlainConstants (shown es.1.now) }
+    requires constants { HasPlainConstants (shown second.now) }
     requires bound { IsPlainEnv (env_of env.now) }
     ensures did { (counted : ℕ) → Acts both_of result
-        (evaluates_in (acting_of acting.now) (λ s. two (evaluated s (shown es.0.now) (env_of env.now)) (evaluated s (shown es.1.now) (env_of env.now))))
+        (evaluates_in (acting_of acting.now) (λ s. two (evaluated s (shown first.now) (env_of env.now)) (evaluated s (shown second.now) (env_of env.now))))
         (point (state tree.now) counted steps.old) (point (state tree.now) counted steps.new) }
     ensures plain { IfOk result (λ xs. IsPlainAnswer (answer_of xs.second)) }
 {
     let mut counted = 0;
-    let first = part(acting, es.0, env, &mut counted, tree, steps)?;
-    let second = part(acting, es.1, env, &mut counted, tree, steps)?;
+    let first = part(acting, first, env, &mut counted, tree, steps)?;
+    let second = part(acting, second, env, &mut counted, tree, steps)?;
     Ok(TwoParts { first, second })
 }
 
@@ -159,22 +168,24 @@ pub struct ThreeParts {
 /// What three expressions give.
 pub fn three_parts<L: Ledger>(
     acting: &Acting<'_>,
-    es: (&Expr, &Expr, &Expr),
+    first: &Expr,
+    second: &Expr,
+    third: &Expr,
     env: &Env,
     tree: &Tree,
     steps: &mut Steps<L>,
 ) -> Result<ThreeParts, RunError>
-    requires constants { HasPlainConstants (shown es.2.now) }
+    requires constants { HasPlainConstants (shown third.now) }
     requires bound { IsPlainEnv (env_of env.now) }
     ensures did { (counted : ℕ) → Acts three_of result
-        (evaluates_in (acting_of acting.now) (λ s. three (evaluated s (shown es.0.now) (env_of env.now)) (evaluated s (shown es.1.now) (env_of env.now)) (evaluated s (shown es.2.now) (env_of env.now))))
+        (evaluates_in (acting_of acting.now) (λ s. three (evaluated s (shown first.now) (env_of env.now)) (evaluated s (shown second.now) (env_of env.now)) (evaluated s (shown third.now) (env_of env.now))))
         (point (state tree.now) counted steps.old) (point (state tree.now) counted steps.new) }
     ensures plain { IfOk result (λ xs. IsPlainAnswer (answer_of xs.third)) }
 {
     let mut counted = 0;
-    let first = part(acting, es.0, env, &mut counted, tree, steps)?;
-    let second = part(acting, es.1, env, &mut counted, tree, steps)?;
-    let third = part(acting, es.2, env, &mut counted, tree, steps)?;
+    let first = part(acting, first, env, &mut counted, tree, steps)?;
+    let second = part(acting, second, env, &mut counted, tree, steps)?;
+    let third = part(acting, third, env, &mut counted, tree, steps)?;
     Ok(ThreeParts {
         first,
         second,
@@ -233,7 +244,13 @@ fn part<L: Ledger>(
         env,
         frame: acting.frame,
     };
-    Views::new().evaluate(acting.alloc, tree, &viewed, &framed, counted, steps)
+    let given = Views::new().evaluate(acting.alloc, tree, &viewed, &framed, counted, steps);
+    let Framed {
+        expr: _,
+        env: _,
+        frame: _,
+    } = framed;
+    given
 }
 
 /// What each of several expressions gives.

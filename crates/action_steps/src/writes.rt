@@ -14,7 +14,7 @@ use crate::naming::{
     entry_put, item_inserted, item_pushed, item_replaced, part_dropped, property_set,
     snapshot_applied,
 };
-use crate::parts::{three_parts, two_parts, value};
+use crate::parts::{ThreeParts, three_parts, two_parts, value};
 use crate::writing::{told_in, write_named};
 use expr_syntax::{Expr, Steps};
 use live_tree::Tree;
@@ -38,7 +38,7 @@ pub fn set<L: Ledger>(
     ensures { (counted : ℕ) → Acts (λ _. env_of env.now) result (ran (acting_of acting.now) (syntax.set (shown on.now) name.now (shown to.now)) (env_of env.now))
         (point (state tree.old) counted steps.old) (point (state tree.new) counted steps.new) }
 {
-    let parts = two_parts(acting, (on, to), env, &*tree, steps)?;
+    let parts = two_parts(acting, on, to, env, &*tree, steps)?;
     let n = node_in(acting.frame, &parts.first)?;
     let naming = property_set(acting.alloc, n, name, parts.second)?;
     write_named(acting, naming, tree)
@@ -61,9 +61,10 @@ pub fn put<L: Ledger>(
     ensures { (counted : ℕ) → Acts (λ _. env_of env.now) result (ran (acting_of acting.now) (syntax.put (shown on.now) (shown key.now) (shown to.now)) (env_of env.now))
         (point (state tree.old) counted steps.old) (point (state tree.new) counted steps.new) }
 {
-    let parts = three_parts(acting, (on, key, to), env, &*tree, steps)?;
+    let parts = three_parts(acting, on, key, to, env, &*tree, steps)?;
     let n = node_in(acting.frame, &parts.first)?;
-    let naming = entry_put(acting.alloc, n, &parts.second, parts.third)?;
+    let ThreeParts { second, third, .. } = parts;
+    let naming = entry_put(acting.alloc, n, &second, third)?;
     write_named(acting, naming, tree)
 }
 
@@ -82,7 +83,7 @@ pub fn push<L: Ledger>(
     ensures { (counted : ℕ) → Acts (λ _. env_of env.now) result (ran (acting_of acting.now) (syntax.push (shown on.now) (shown to.now)) (env_of env.now))
         (point (state tree.old) counted steps.old) (point (state tree.new) counted steps.new) }
 {
-    let parts = two_parts(acting, (on, to), env, &*tree, steps)?;
+    let parts = two_parts(acting, on, to, env, &*tree, steps)?;
     let n = node_in(acting.frame, &parts.first)?;
     let size = tree.len(n).unwrap_or(0);
     let naming = item_pushed(acting.alloc, n, parts.second, size)?;
@@ -106,9 +107,10 @@ pub fn insert<L: Ledger>(
     ensures { (counted : ℕ) → Acts (λ _. env_of env.now) result (ran (acting_of acting.now) (syntax.insert (shown on.now) (shown index.now) (shown to.now)) (env_of env.now))
         (point (state tree.old) counted steps.old) (point (state tree.new) counted steps.new) }
 {
-    let parts = three_parts(acting, (on, index, to), env, &*tree, steps)?;
+    let parts = three_parts(acting, on, index, to, env, &*tree, steps)?;
     let n = node_in(acting.frame, &parts.first)?;
-    let naming = item_inserted(acting.alloc, n, &parts.second, parts.third)?;
+    let ThreeParts { second, third, .. } = parts;
+    let naming = item_inserted(acting.alloc, n, &second, third)?;
     write_named(acting, naming, tree)
 }
 
@@ -129,9 +131,10 @@ pub fn replace<L: Ledger>(
     ensures { (counted : ℕ) → Acts (λ _. env_of env.now) result (ran (acting_of acting.now) (syntax.replace (shown on.now) (shown index.now) (shown to.now)) (env_of env.now))
         (point (state tree.old) counted steps.old) (point (state tree.new) counted steps.new) }
 {
-    let parts = three_parts(acting, (on, index, to), env, &*tree, steps)?;
+    let parts = three_parts(acting, on, index, to, env, &*tree, steps)?;
     let n = node_in(acting.frame, &parts.first)?;
-    let naming = item_replaced(acting.alloc, n, &parts.second, parts.third)?;
+    let ThreeParts { second, third, .. } = parts;
+    let naming = item_replaced(acting.alloc, n, &second, third)?;
     write_named(acting, naming, tree)
 }
 
@@ -150,7 +153,7 @@ pub fn drop<L: Ledger>(
     ensures { (counted : ℕ) → Acts (λ _. env_of env.now) result (ran (acting_of acting.now) (syntax.drop (shown on.now) (shown key.now)) (env_of env.now))
         (point (state tree.old) counted steps.old) (point (state tree.new) counted steps.new) }
 {
-    let parts = two_parts(acting, (on, key), env, &*tree, steps)?;
+    let parts = two_parts(acting, on, key, env, &*tree, steps)?;
     let n = node_in(acting.frame, &parts.first)?;
     let naming = part_dropped(acting.alloc, n, &parts.second)?;
     write_named(acting, naming, tree)
@@ -192,7 +195,7 @@ pub fn apply<L: Ledger>(
     ensures { (counted : ℕ) → Acts (λ _. env_of env.now) result (ran (acting_of acting.now) (syntax.apply (shown on.now) (shown to.now)) (env_of env.now))
         (point (state tree.old) counted steps.old) (point (state tree.new) counted steps.new) }
 {
-    let parts = two_parts(acting, (on, to), env, &*tree, steps)?;
+    let parts = two_parts(acting, on, to, env, &*tree, steps)?;
     let n = node_in(acting.frame, &parts.first)?;
     let naming = snapshot_applied(acting.alloc, n, parts.second);
     write_named(acting, naming, tree)

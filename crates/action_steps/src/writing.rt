@@ -36,15 +36,18 @@ pub fn write_named(acting: &Acting<'_>, w: Naming, tree: &mut Tree) -> Result<()
         giving,
         ..
     } = w;
-    let Some(place) = place else {
-        return Err(unsuited(acting, node, path, &*tree));
-    };
-    let to = Target {
-        running: acting.running,
-        place: &place,
-        named: Some(&path),
-    };
-    give(acting, &to, giving, tree)
+    match place {
+        Some(place) => {
+            let named = Some(&path);
+            let to = Target {
+                running: acting.running,
+                place: &place,
+                named,
+            };
+            give(acting, &to, giving, tree)
+        }
+        None => Err(unsuited(acting, node, path, &*tree)),
+    }
 }
 
 /// An answer, written at a place.
