@@ -1,18 +1,23 @@
 -- Passing the middleware around an action.
-use Rattle.std.proofs.Common.{◌≡◌, ℕ, List, [], ◌∷◌, Bool, true, false, ◌||◌, Result, Ok, Err, refl, sym, ◌∙◌, ap, subst, arith}
-use Rattle.std.specs.Prelude.{is_err}
+use Rattle.std.proofs.Common.{◌≡◌, ℕ, List, [], ◌∷◌, Bool, true, false, ◌&&◌, Result, Ok, Err, refl, sym, ◌∙◌, ap, subst}
+use Rattle.std.specs.Prelude.{is_err, IsErrAnd, if◌then◌else◌}
 use Rattle.pointer_core.specs.Path.{Path}
 use Rattle.snap_core.specs.declared.number.NodeNo.{NodeNo}
 use Rattle.expr_syntax.specs.Syntax.{Expression}
 use Rattle.live_tree.specs.Laws.{given_back}
+use Rattle.tree_core.specs.State.{State as Tree}
 use Rattle.view_engine.specs.declared.halt.RunError.{RunError}
-use Rattle.action_core.specs.Act.{Act, ◌>>=◌, all_or_nothing}
+use Rattle.action_core.specs.Act.{Act, all_or_nothing}
 use Rattle.action_core.specs.Behaving.{Behaving}
 use Rattle.action_core.specs.Calling.{guards, if_admitted}
 use Rattle.action_steps.specs.Doing.{Point, point, Acts, back_at, IsRefusal}
 use Rattle.pointer_core.specs.declared.refusal.Rule.TheVariants as rule
 use Rattle.action_steps.proofs.Doing.{acts-then, acts-stop, acts-refuses, acts-kept, acts-taken-back}
-use Rattle.action_run.specs.Surrounding.{Done, left_at, Continues, Admits, guarded}
+use Rattle.action_core.specs.Calling.{around, surrounded}
+use Rattle.action_core.specs.Layers.{Layer}
+use Rattle.model_syntax.specs.declared.behaviour.Surrounded.{Surrounded}
+use Rattle.model_syntax.specs.Shown.{ShownMiddleware, atomic, protect}
+use Rattle.action_run.specs.Surrounding.{Done, left_at, Continues, Passes, Admits, guarded}
 
 -- nothing is around what is inside
 pub continues-alone : (inner : Act (Unit {0})) (a : Point) → Continues false inner inner a a
@@ -37,6 +42,13 @@ pub condition-refused : (behaving : Behaving) (frame : Path) (n : NodeNo) (condi
     → Acts {T = Bool} (λ x. x) (Err e) (guards behaving frame n condition) a b → Acts {T = Unit {0}} (λ u. u) (Err e) (guarded behaving frame n condition inner) a b
 condition-refused behaving frame n condition inner e a b did =
     acts-stop {T = Bool} {U = Unit {0}} (λ x. x) (λ u. u) e (guards behaving frame n condition) (if_admitted frame inner) a b did
+
+-- what ended one call is handed on
+pub guard-handed : (behaving : Behaving) (frame : Path) (n : NodeNo) (condition : Expression) (inner : Act (Unit {0})) (e : RunError) (r : Done) (a b : Point)
+    → IsErrAnd r (λ x. x ≡ e) → Acts {T = Unit {0}} (λ u. u) (Err e) (guarded behaving frame n condition inner) a b → Admits r behaving frame n condition inner a b
+guard-handed behaving frame n condition inner e (Ok u) a b is did = absurd is
+guard-handed behaving frame n condition inner e (Err other) a b is did =
+    subst (λ h. Acts {T = Unit {0}} (λ u. u) (Err h) (guarded behaving frame n condition inner) a b) (sym is) did
 
 -- What was passed, and then one middleware more.
 
@@ -67,3 +79,75 @@ atomic-passed so_far outer inner a b first (Err e) d did =
     left_err : (x : Bool) → left_at x (Err e) b (back_at b d) ≡ back_at b d
     left_err false = refl
     left_err true = refl
+
+-- The first of the middlewares that are left is passed.
+
+opened : (behaving : Behaving) (frame : Path) (inner : Act (Unit {0})) (ls rest : List Layer) (l : Layer) (m : ShownMiddleware) → ls ≡ l ∷ rest → l.middleware ≡ m
+    → surrounded behaving frame ls inner ≡ around behaving frame l.node m (surrounded behaving frame rest inner)
+opened behaving frame inner ls rest l m first is =
+    ap (λ xs. surrounded behaving frame xs inner) first ∙ ap (λ x. around behaving frame l.node x (surrounded behaving frame rest inner)) is
+
+pub passed-atomic : (behaving : Behaving) (frame : Path) (so_far : Bool) (outer inner : Act (Unit {0})) (ls rest : List Layer) (l : Layer) (which : Surrounded) (a b : Point)
+    → ls ≡ l ∷ rest → l.middleware ≡ atomic which → Continues so_far outer (surrounded behaving frame ls inner) a b → Continues true outer (surrounded behaving frame rest inner) a b
+passed-atomic behaving frame so_far outer inner ls rest l which a b first is so =
+    atomic-passed so_far outer (surrounded behaving frame rest inner) a b
+    (subst (λ act. Continues so_far outer act a b) (opened behaving frame inner ls rest l (atomic which) first is) so)
+
+pub passed-guard : (behaving : Behaving) (frame : Path) (so_far : Bool) (outer inner : Act (Unit {0})) (ls rest : List Layer) (l : Layer) (which : Surrounded) (condition : Expression) (a b c : Point)
+    → ls ≡ l ∷ rest → l.middleware ≡ protect which condition → c.tree ≡ b.tree → Continues so_far outer (surrounded behaving frame ls inner) a b
+    → Continues false (guarded behaving frame l.node condition (surrounded behaving frame rest inner)) (surrounded behaving frame rest inner) b c
+    → Continues so_far outer (surrounded behaving frame rest inner) a c
+passed-guard behaving frame so_far outer inner ls rest l which condition a b c first is same so next =
+    guard-passed so_far outer (guarded behaving frame l.node condition (surrounded behaving frame rest inner)) (surrounded behaving frame rest inner) a b c same
+    (subst (λ act. Continues so_far outer act a b) (opened behaving frame inner ls rest l (protect which condition) first is) so) next
+
+pub passed-all : (behaving : Behaving) (frame : Path) (so_far : Bool) (outer inner : Act (Unit {0})) (ls : List Layer) (a b : Point) → ls ≡ []
+    → Continues so_far outer (surrounded behaving frame ls inner) a b → Continues so_far outer inner a b
+passed-all behaving frame so_far outer inner ls a b none so = subst (λ xs. Continues so_far outer (surrounded behaving frame xs inner) a b) none so
+
+same-left : (so_far : Bool) (r : Done) (b c : Point) → c.tree ≡ b.tree → left_at so_far r b c ≡ c
+same-left false r b c same = refl
+same-left true (Ok u) b c same = refl
+same-left true (Err e) b c same = ap (λ t. point (given_back t c.tree) c.counted c.steps) (sym same)
+
+pub passed-refused : (behaving : Behaving) (frame : Path) (so_far : Bool) (outer inner : Act (Unit {0})) (ls rest : List Layer) (l : Layer) (which : Surrounded) (condition : Expression) (e : RunError) (a b c : Point)
+    → ls ≡ l ∷ rest → l.middleware ≡ protect which condition → c.tree ≡ b.tree → Continues so_far outer (surrounded behaving frame ls inner) a b
+    → Acts {T = Unit {0}} (λ u. u) (Err e) (guarded behaving frame l.node condition (surrounded behaving frame rest inner)) b c
+    → Acts {T = Unit {0}} (λ u. u) (Err e) outer a c
+passed-refused behaving frame so_far outer inner ls rest l which condition e a b c first is same so did =
+    subst (λ (p : Point). Acts {T = Unit {0}} (λ u. u) (Err e) outer a p) (same-left so_far (Err e) b c same)
+    (subst (λ act. Continues so_far outer act a b) (opened behaving frame inner ls rest l (protect which condition) first is) so (Err e) c did)
+
+pub passes-handed : (outer inner : Act (Unit {0})) (e : RunError) (r : Result Bool RunError) (a b : Point) → IsErrAnd r (λ x. x ≡ e)
+    → Acts {T = Unit {0}} (λ u. u) (Err e) outer a b → Passes r outer inner a b
+passes-handed outer inner e (Ok x) a b is did = absurd is
+passes-handed outer inner e (Err other) a b is did = subst (λ h. Acts {T = Unit {0}} (λ u. u) (Err h) outer a b) (sym is) did
+
+pub and-true : (x y : Bool) → x ≡ true → y ≡ true → x && y ≡ true
+and-true true y h k = k
+and-true false y h k = cc
+
+pub and-false-left : (x y : Bool) → x ≡ false → x && y ≡ false
+and-false-left false y h = refl
+and-false-left true y h = cc
+
+pub and-false-right : (x y : Bool) → y ≡ false → x && y ≡ false
+and-false-right true y h = h
+and-false-right false y h = refl
+
+pub continues-at : (x y : Bool) (n m counted : ℕ) (tree : Tree) (outer inner : Act (Unit {0})) (a : Point) → x ≡ y → n ≡ m
+    → Continues y outer inner a (point tree counted m) → Continues x outer inner a (point tree counted n)
+continues-at x y n m counted tree outer inner a is same so =
+    subst (λ (k : ℕ). Continues x outer inner a (point tree counted k)) (sym same) (subst (λ z. Continues z outer inner a (point tree counted m)) (sym is) so)
+
+-- A body within its middleware, and then the tree of before, where one of it is atomic.
+
+pub surround-stays : (so_far : Bool) (outer inner : Act (Unit {0})) (r : Done) (a b c : Point) → so_far && is_err r ≡ false → Continues so_far outer inner a b
+    → Acts (λ u. u) r inner b c → Acts (λ u. u) r outer a c
+surround-stays so_far outer inner r a b c stays so did =
+    subst (λ (p : Point). Acts {T = Unit {0}} (λ u. u) r outer a p) (ap (λ x. if x then back_at b c else c) stays) (so r c did)
+
+pub surround-back : (so_far : Bool) (outer inner : Act (Unit {0})) (r : Done) (a b c d : Point) → so_far && is_err r ≡ true → d ≡ back_at b c → Continues so_far outer inner a b
+    → Acts (λ u. u) r inner b c → Acts (λ u. u) r outer a d
+surround-back so_far outer inner r a b c d backs is so did =
+    subst (λ (p : Point). Acts {T = Unit {0}} (λ u. u) r outer a p) (ap (λ x. if x then back_at b c else c) backs ∙ sym is) (so r c did)

@@ -1,2 +1,4 @@
 pub mod Sequences
 pub mod Layered
+pub mod Counted
+pub mod Calls

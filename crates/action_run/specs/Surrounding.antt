@@ -1,16 +1,23 @@
 -- What passing the middleware around an action comes to.
-use Rattle.std.specs.Prelude.{◌≡◌, Bool, true, false, ◌&&◌, is_err, Result, Ok, Err, if◌then◌else◌}
+use Rattle.std.specs.Prelude.{ℕ, List, Bool, false, not, ◌&&◌, is_err, Result, Ok, Err, if◌then◌else◌}
 use Rattle.pointer_core.specs.Path.{Path}
 use Rattle.snap_core.specs.declared.number.NodeNo.{NodeNo}
 use Rattle.expr_syntax.specs.Syntax.{Expression}
 use Rattle.view_engine.specs.declared.halt.RunError.{RunError}
+use Rattle.view_engine.specs.declared.halt.RunError.TheVariants.{Refused}
 use Rattle.action_core.specs.Act.{Act, ◌>>=◌}
-use Rattle.action_core.specs.Behaving.{Behaving}
-use Rattle.action_core.specs.Calling.{guards, if_admitted}
+use Rattle.action_core.specs.Behaving.{Acting, Behaving, Running}
+use Rattle.action_core.specs.Calling.{guards, if_admitted, called}
+use Rattle.action_core.specs.Running.{is_budget}
 use Rattle.action_steps.specs.Doing.{Point, Acts, back_at}
 
 abbrev pub Done : Type 0
 Done = Result (Unit {0}) RunError
+
+-- another block is run where this came of a first one: a refusal, unless it is that the request ran too many statements
+abbrev pub is_rescued : Done → Bool
+is_rescued (Err (Refused r)) = not (is_budget r.rule)
+is_rescued result = false
 
 -- where a call that came to a point leaves a request: where it is all or nothing and ended with an error, with the tree as it was
 abbrev pub left_at : Bool → Done → Point → Point → Point
@@ -35,3 +42,9 @@ guarded behaving frame n condition inner = do
 abbrev pub Admits : Done → Behaving → Path → NodeNo → Expression → Act (Unit {0}) → Point → Point → Type 0
 Admits (Ok u) behaving frame n condition inner a b = Continues false (guarded behaving frame n condition inner) inner a b
 Admits (Err e) behaving frame n condition inner a b = Acts {T = Unit {0}} (λ u. u) (Err e) (guarded behaving frame n condition inner) a b
+
+-- by what the statements of an action run that is one more of those that run
+abbrev pub running_by : Behaving → ℕ → List NodeNo → Path → Acting
+running_by behaving room nodes frame =
+    let running : Running = record { nodes = nodes; frame = frame } in
+    record { behaving = behaving; running = running; call = called behaving room running }

@@ -5,11 +5,12 @@ ghost use Rattle.expr_syntax.specs.ShownStatements.{statements, stmt_shown, bloc
 ghost use Rattle.expr_syntax.specs.Syntax as syntax;
 ghost use Rattle.answer_ops.specs.View.{answer_of, answers_of};
 ghost use Rattle.live_tree.specs.Contents.{state};
-ghost use Rattle.plain_answers.specs.Plainness.{IsPlainAnswer, ArePlainAnswers, IsPlainEnv, HasPlainConstants, HavePlainConstants};
+ghost use Rattle.plain_answers.specs.Plainness.{IsPlainAnswer, ArePlainAnswers, IsPlainEnv, HasPlainConstants};
 ghost use Rattle.action_core.specs.Calling.{called, surrounded};
-ghost use Rattle.plain_answers.specs.EachExpression.{HoldsInStatement, HoldsInBlock};
+ghost use Rattle.plain_answers.specs.EachExpression.{HoldsInEach, HoldsInStatement, HoldsInBlock};
 ghost use Rattle.action_core.specs.Running.{ran, ran_block, is_budget};
 ghost use Rattle.action_steps.specs.Doing.{Acts, point, IsRefusal};
+ghost use Rattle.action_run.specs.Surrounding.{is_rescued, running_by};
 ghost use Rattle.action_steps.specs.Acting.{behaving_of, running_of, acting_of, callee_of, layer_of, env_of};
 
 use crate::binding::{bind, count, with_latest};
@@ -21,8 +22,8 @@ use action_steps::{
 use answer_ops::Value;
 use expr_syntax::{Block, Expr, Steps, Stmt};
 use live_tree::Tree;
-use pointer_core::Rule;
-use snap_core::{Name, Txt};
+use pointer_core::{Pointer, Rule};
+use snap_core::{Name, NodeNo, Txt};
 use std::sync::ledger::Ledger;
 use view_engine::{Env, RunError};
 
@@ -241,6 +242,7 @@ fn run_turn<L: Ledger>(
 }
 
 /// Calls an action of the node that an expression gives.
+#[tactic(auto, using(crate::proofs::Sequences::each_plain))]
 #[cycle(run)]
 fn call_on<L: Ledger>(
     acting: &Acting<'_>,
@@ -253,7 +255,7 @@ fn call_on<L: Ledger>(
     steps: &mut Steps<L>,
 ) -> Result<(), RunError>
     requires on { HasPlainConstants (shown on.now) }
-    requires args { HavePlainConstants (expressions (map shown args.now)) }
+    requires args { HoldsInEach HasPlainConstants (expressions (map shown args.now)) }
     requires bound { IsPlainEnv (env_of env.now) }
     ensures did { Acts (λ _. env_of env.now) result (ran (acting_of acting.now) (syntax.call (shown on.now) name.now (expressions (map shown args.now))) (env_of env.now))
         (point (state tree.old) counted.old steps.old) (point (state tree.new) counted.new steps.new) }
@@ -286,11 +288,20 @@ fn attempt<L: Ledger>(
         (point (state tree.old) counted.old steps.old) (point (state tree.new) counted.new steps.new) }
     ensures env { env.new ≡ env.old }
 {
-    match run_block(&*acting, first, env, tree, counted, steps) {
-        Err(RunError::Refused(refusal)) if !is_budget(&refusal.rule) => {
-            run_block(&*acting, second, env, tree, counted, steps)
-        }
-        result => result,
+    let tried = run_block(&*acting, first, env, tree, counted, steps);
+    if is_rescued(&tried) {
+        return run_block(&*acting, second, env, tree, counted, steps);
+    }
+    tried
+}
+
+/// Whether another block is run where this came of a first one.
+fn is_rescued(tried: &Result<(), RunError>) -> bool
+    ensures { result ≡ is_rescued tried.now }
+{
+    match tried {
+        Err(RunError::Refused(refusal)) => !is_budget(&refusal.rule),
+        _ => false,
     }
 }
 
@@ -318,18 +329,12 @@ pub fn call<L: Ledger>(
         body,
         mut env,
     } = begin(acting.alloc, acting.schema, &*tree, acting.frame, callee)?;
-    if acting.room == 0 {
+    let Some(room) = acting.room.checked_sub(1) else {
         return Err(refused(&frame, Rule::Calls));
-    }
+    };
     let layers = layers_around(acting.alloc, acting.schema, &*tree, callee)?;
     let running = with_latest(acting.alloc, callee.node, acting.running)?;
-    let within = Acting {
-        alloc: acting.alloc,
-        schema: acting.schema,
-        running: running.as_slice(),
-        frame: &frame,
-        room: acting.room - 1,
-    };
+    let within = within(&*acting, running.as_slice(), &frame, room);
     surround(
         &within,
         layers.as_slice(),
@@ -339,6 +344,27 @@ pub fn call<L: Ledger>(
         counted,
         steps,
     )
+}
+
+/// By what the statements of an action run that is one more of those that run.
+fn within<'a>(
+    acting: &Acting<'a>,
+    running: &'a [NodeNo],
+    frame: &'a Pointer,
+    room: u32,
+) -> Acting<'a>
+    ensures acting { acting_of result ≡ running_by (behaving_of acting.now.schema.now) room running.now frame.now }
+    ensures schema { behaving_of result.schema.now ≡ behaving_of acting.now.schema.now }
+    ensures frame { result.frame.now ≡ frame.now }
+    ensures room { result.room ≡ room }
+{
+    Acting {
+        alloc: acting.alloc,
+        schema: acting.schema,
+        running,
+        frame,
+        room,
+    }
 }
 
 /// Runs the body of an action within its middleware: where one of it is atomic and the body is refused, what the body
