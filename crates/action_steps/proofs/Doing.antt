@@ -1,5 +1,5 @@
 -- How calls that do acts are put together.
-use Rattle.std.proofs.Common.{◌≡◌, ℕ, suc, ◌+◌, ◌≤◌, List, [], Bool, true, false, Result, Ok, Err, refl, sym, ◌∙◌, ap, subst, arith}
+use Rattle.std.proofs.Common.{◌≡◌, ℕ, ◌≤◌, List, [], Result, Ok, Err, refl, sym, ◌∙◌, ap, subst, arith}
 use Rattle.std.specs.Prelude.{IsErrAnd}
 use Rattle.snap_core.specs.declared.number.NodeNo.{NodeNo}
 use Rattle.pointer_core.specs.Path.{Path}
@@ -16,10 +16,10 @@ use Rattle.tree_core.specs.State.{State as Tree}
 use Rattle.eval_core.specs.Answer.{Answer, node, plain, several}
 use Rattle.view_engine.specs.declared.halt.RunError.{RunError}
 use Rattle.view_engine.specs.declared.halt.RunError.TheVariants as halts
-use Rattle.action_core.specs.Act.{Tried, Met, State, Ran, Act, came, tells, gives, refuses, looks, ◌>>=◌, or_else, all_or_nothing, taken_back}
+use Rattle.action_core.specs.Act.{Tried, Met, State, Ran, Act, came, tells, refuses, looks, ◌>>=◌, or_else, all_or_nothing, taken_back}
 use Rattle.action_core.specs.Behaving.{on_node}
 use Rattle.action_core.proofs.Composing.{then-came, then-refused, tried-came, tried-refused, atomic-came, atomic-refused, tells-came, looks-came}
-use Rattle.action_steps.specs.Doing.{Point, point, state_at, spent, Stands, Came, Acts, back_at, IsOutcome, IsRefusal, is_node, IsNodeIn}
+use Rattle.action_steps.specs.Doing.{Point, state_at, spent, Stands, Came, Acts, back_at, IsOutcome, IsRefusal, IsNodeIn}
 
 -- A point stands for its state.
 

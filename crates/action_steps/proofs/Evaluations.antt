@@ -1,5 +1,5 @@
 -- How evaluations of parts of a statement are put together, and what acts they are.
-use Rattle.std.proofs.Common.{◌≡◌, ℕ, ◌+◌, ◌≤◌, List, [], ◌∷◌, ◌++◌, map, Bool, Result, Ok, Err, refl, sym, ◌∙◌, ap, subst, arith}
+use Rattle.std.proofs.Common.{◌≡◌, ℕ, ◌+◌, ◌≤◌, List, [], ◌∷◌, ◌++◌, Bool, Result, Ok, Err, refl, sym, ◌∙◌, ap, subst, arith}
 use Rattle.std.specs.Prelude.{IsErrAnd, IfOk, OnOk}
 use Rattle.pointer_core.specs.declared.refusal.Refusal.{Refusal}
 use Rattle.pointer_core.specs.declared.refusal.Rule.{Rule}
@@ -17,15 +17,15 @@ use Rattle.eval_core.specs.Sight.{Sight}
 use Rattle.answer_ops.specs.View.{answer_of}
 use Rattle.answer_ops.specs.declared.value.Value.{Value}
 use Rattle.view_engine.specs.Did.{counted_within, cost_of, Course, course, Did, Read}
-use Rattle.view_engine.specs.Halts.{Answers, fault_of}
-use Rattle.view_engine.specs.Told.{Telling, Tells, refusal_of}
+use Rattle.view_engine.specs.Halts.{Answers}
+use Rattle.view_engine.specs.Told.{Telling, Tells}
 use Rattle.view_engine.specs.declared.halt.Halt.{Halt}
 use Rattle.view_engine.specs.declared.halt.Halt.TheVariants as halts
 use Rattle.view_engine.specs.declared.halt.Fault as faults
 use Rattle.view_engine.specs.declared.halt.RunError.{RunError}
 use Rattle.view_engine.specs.declared.halt.RunError.TheVariants as errors
 use Rattle.view_engine.proofs.Doing.{did-then, did-stop, did-memory, read-did, read-lift}
-use Rattle.action_core.specs.Act.{Tried, Met, State, Ran, came, with_met}
+use Rattle.action_core.specs.Act.{Tried, Met, Ran, came, with_met}
 use Rattle.action_core.specs.Behaving.{Behaving, told}
 use Rattle.action_core.specs.Running.{two, three, evaluates_in}
 use Rattle.action_core.proofs.Composing.{evaluates-came}

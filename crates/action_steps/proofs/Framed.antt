@@ -1,10 +1,10 @@
 -- What a schema says of views is what behaving by it says, and evaluating over a plain tree is plain.
-use Rattle.std.proofs.Common.{◌≡◌, ℕ, ◌+◌, ◌≤◌, List, [], map, Result, Ok, Err, ap, subst, sym}
+use Rattle.std.proofs.Common.{◌≡◌, ℕ, ◌+◌, ◌≤◌, List, [], map, Result, Ok, ap, subst, sym}
 use Rattle.std.specs.Prelude.{All, IfOk, OnOk}
 use Rattle.expr_syntax.specs.Syntax.{Expression}
 use Rattle.snap_core.specs.Value.{IsPlain}
 use Rattle.edit_core.specs.Labelled.{bare}
-use Rattle.model_syntax.specs.Shown.{ShownView, ShownBehaviour, behaviour_shown}
+use Rattle.model_syntax.specs.Shown.{ShownBehaviour, behaviour_shown}
 use Rattle.live_tree.specs.Contents.{Contents, state}
 use Rattle.eval_core.specs.Answer.{Answer}
 use Rattle.eval_core.specs.Asking.{most_views, frame_scope}

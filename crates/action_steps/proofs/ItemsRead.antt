@@ -1,23 +1,20 @@
 -- The items that views give are those that are read one by one.
 use Rattle.std.proofs.Common.{◌≡◌, ℕ, ◌+◌, List, [], ◌∷◌, ◌++◌, map, Result, Ok, Err, refl, sym, ◌∙◌, ap, subst, add-zero, append-nil, append_assoc}
-use Rattle.std.specs.Prelude.{All, IfOk}
+use Rattle.std.specs.Prelude.{All}
 use Rattle.std.proofs.lemmas.List.Elements.{All-cons, All-nil}
-use Rattle.snap_core.specs.Value.{IsPlain}
-use Rattle.edit_core.specs.Labelled.{bare}
 use Rattle.expr_syntax.specs.Syntax.{Expression, collect}
 use Rattle.expr_syntax.specs.Syntax as syntax
 use Rattle.eval_core.specs.declared.site.Site.{Site}
 use Rattle.eval_core.specs.Answer.{Answer, Answers, several, answer, no_answers, with_last}
-use Rattle.eval_core.specs.Asking.{most_views}
 use Rattle.eval_core.specs.Evaluating.{evaluated, told}
 use Rattle.eval_core.specs.Run.{Fault, Run, Eval, andthen, continued, joined, ended, lift}
 use Rattle.eval_core.specs.Scope.{Scope, Env, gives, judged}
-use Rattle.eval_core.specs.Walking.{Item, given, standing, read_item, walked, gathered, Turn, on, turned, walk_over, start}
+use Rattle.eval_core.specs.Walking.{Item, given, standing, read_item, walked, gathered, on, turned, walk_over, start}
 use Rattle.answer_ops.specs.View.{answer_of, answers_from}
 use Rattle.answer_ops.specs.declared.value.Value.{Value}
 use Rattle.answer_ops.specs.declared.value.Value as valued
 use Rattle.answer_ops.proofs.Views.{answer-Several}
-use Rattle.plain_answers.specs.Plainness.{IsPlainAnswer, HasPlainConstants, IsPlainEnv}
+use Rattle.plain_answers.specs.Plainness.{IsPlainAnswer}
 use Rattle.plain_answers.proofs.Giving as giving
 use Rattle.plain_answers.proofs.Giving.{Gives, going_on}
 use Rattle.plain_answers.proofs.Readings.{IsPlainScope, held}

@@ -1,5 +1,5 @@
 -- What is left of several expressions that are evaluated in turn.
-use Rattle.std.proofs.Common.{◌≡◌, ℕ, zero, suc, ◌+◌, ◌<◌, List, [], ◌∷◌, ◌++◌, length, map, drop, get_or, Result, Ok, Err, refl, sym, ◌∙◌, ap, subst, add-zero, arith}
+use Rattle.std.proofs.Common.{◌≡◌, ℕ, zero, suc, ◌+◌, ◌<◌, List, [], ◌∷◌, ◌++◌, length, map, drop, get_or, Result, Ok, Err, refl, sym, ◌∙◌, ap, subst, add-zero}
 use Rattle.std.proofs.lemmas.List.{map-append}
 use Rattle.expr_syntax.specs.Syntax as syntax
 use Rattle.expr_syntax.specs.Syntax.{Expressions}
@@ -12,7 +12,7 @@ use Rattle.eval_core.specs.Evaluating.{evaluated, all_evaluated}
 use Rattle.answer_ops.specs.View.{answer_of, answers_of, answers_from}
 use Rattle.answer_ops.specs.declared.value.Value.{Value}
 use Rattle.plain_answers.specs.Plainness.{IsPlainAnswer, ArePlainAnswers, HasPlainConstants, HavePlainConstants}
-use Rattle.view_engine.specs.Did.{cost_of, Course, course, Did}
+use Rattle.view_engine.specs.Did.{cost_of, Course, course}
 use Rattle.view_engine.specs.Told.{Telling}
 use Rattle.view_engine.specs.declared.halt.RunError.{RunError}
 use Rattle.view_engine.specs.declared.halt.RunError.TheVariants as errors

@@ -2,7 +2,7 @@
 use Rattle.std.proofs.Common.{◌≡◌, ℕ, zero, suc, ◌+◌, List, [], ◌∷◌, ◌++◌, length, drop, refl, sym, ◌∙◌, ap, append_assoc, zero-add, add-zero, suc-add, add-suc}
 use Rattle.snap_core.specs.declared.number.NodeNo.{NodeNo}
 use Rattle.edit_core.specs.Labelled.{Labelled, branches, entries}
-use Rattle.node_core.specs.View.{labelled, fields, field}
+use Rattle.node_core.specs.View.{fields}
 use Rattle.node_core.specs.declared.labelled.LabelledField.{LabelledField}
 use Rattle.tree_core.specs.declared.place.Place.{Place}
 use Rattle.tree_core.specs.declared.place.Place.TheVariants as place

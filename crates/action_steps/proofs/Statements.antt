@@ -13,7 +13,6 @@ use Rattle.tree_core.specs.Writing as whole
 use Rattle.tree_core.specs.State.{State as Tree}
 use Rattle.eval_core.specs.Answer.{Answer}
 use Rattle.eval_core.specs.Scope.{Env}
-use Rattle.plain_answers.specs.Plainness.{IsPlainAnswer}
 use Rattle.answer_writing.specs.Giving.{Giving}
 use Rattle.answer_writing.specs.Written.{GivesPlain}
 use Rattle.view_engine.specs.declared.halt.RunError.{RunError}

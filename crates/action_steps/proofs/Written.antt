@@ -1,5 +1,5 @@
 -- Writes of a tree, as acts.
-use Rattle.std.proofs.Common.{◌≡◌, ℕ, List, [], ◌∷◌, ◌++◌, Some, None, Result, Ok, Err, refl, sym, ◌∙◌, ap, subst, arith}
+use Rattle.std.proofs.Common.{◌≡◌, List, ◌++◌, Some, None, Result, Ok, Err, refl, sym, ◌∙◌, ap, subst, arith}
 use Rattle.pointer_core.specs.Path.{Path}
 use Rattle.pointer_core.specs.declared.refusal.Refusal.{Refusal}
 use Rattle.type_table.specs.Table.{Catalog}
@@ -25,11 +25,11 @@ use Rattle.answer_writing.specs.Giving.{Giving, given}
 use Rattle.answer_writing.specs.Written.{ComesTo}
 use Rattle.view_engine.specs.declared.halt.RunError.{RunError}
 use Rattle.view_engine.specs.declared.halt.RunError.TheVariants as halts
-use Rattle.action_core.specs.Act.{Tried, Met, State, Ran, came, with_change}
+use Rattle.action_core.specs.Act.{State, Ran, came, with_change}
 use Rattle.action_core.specs.Behaving.{node_path, path_in_frame, in_frame, changed_to, writes}
 use Rattle.action_core.specs.Statements as core
 use Rattle.action_core.proofs.Composing.{writes-came}
-use Rattle.action_steps.specs.Doing.{Point, point, state_at, spent, Stands, Came, Acts, IsRefusal}
+use Rattle.action_steps.specs.Doing.{Point, point, state_at, spent, Stands, Came, IsRefusal}
 use Rattle.action_steps.specs.Writes.{IsToldIn, RefusesIn, Writes}
 use Rattle.action_steps.proofs.Doing.{stands-still, acts-memory}
 

@@ -1,5 +1,5 @@
 -- By what the statements of an action run, as calls are given it.
-use Rattle.std.specs.Prelude.{◌≡◌, ℕ, List, Result, Ok, Err}
+use Rattle.std.specs.Prelude.{◌≡◌, Result, Ok, Err}
 use Rattle.type_core.specs.Making.{Outcome}
 use Rattle.type_core.specs.Made.{refused_as}
 use Rattle.expr_syntax.specs.ShownStatements.{block_shown}
@@ -11,9 +11,8 @@ use Rattle.action_core.specs.Layers as layers
 use Rattle.action_steps.specs.declared.beginning.Begun.{Begun}
 use Rattle.action_steps.specs.declared.beginning.Callee.{Callee}
 use Rattle.action_steps.specs.declared.layers.Layer.{Layer}
-use Rattle.snap_core.specs.declared.number.NodeNo.{NodeNo}
 use Rattle.expr_core.specs.Schema.{Schema, behaviours_shown}
-use Rattle.answer_ops.specs.View.{answer_of, answers_of}
+use Rattle.answer_ops.specs.View.{answers_of}
 use Rattle.eval_core.specs.Scope.{Env}
 use Rattle.view_engine.specs.Names.{bindings_of}
 use Rattle.view_engine.specs.declared.names.Env.{Env as Bound}

@@ -4,7 +4,6 @@ use Rattle.snap_core.specs.declared.number.NodeNo.{NodeNo}
 use Rattle.pointer_core.specs.Path.{Path}
 use Rattle.pointer_core.specs.declared.refusal.Rule.{Rule}
 use Rattle.pointer_core.specs.declared.refusal.Rule.TheVariants as rule
-use Rattle.pointer_core.specs.declared.refusal.Refusal.{Refusal}
 use Rattle.type_core.specs.Making.{Outcome}
 use Rattle.type_core.specs.Made.{refused_as}
 use Rattle.live_tree.specs.Laws.{CanBeTakenBack, given_back}

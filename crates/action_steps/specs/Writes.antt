@@ -1,5 +1,5 @@
 -- How a call relates to the write that it does, and what it names.
-use Rattle.std.specs.Prelude.{◌≡◌, ℕ, Result, Ok, Err}
+use Rattle.std.specs.Prelude.{◌≡◌, ℕ, Result, Err}
 use Rattle.pointer_core.specs.Path.{Path}
 use Rattle.type_core.specs.Making.{Outcome}
 use Rattle.type_core.specs.Made.{refused_as}

@@ -1,8 +1,7 @@
-use Rattle.std.proofs.Common.{◌≡◌, ℕ, ◌+◌, List, ◌∷◌, drop, Ok, Err, ap, subst, drop_of_length-le, arith}
+use Rattle.std.proofs.Common.{◌+◌, List, drop, Ok, Err, ap, subst, drop_of_length-le, arith}
 use Rattle.live_tree.specs.Contents.{state}
 use Rattle.tree_core.specs.declared.place.Place.{Place}
 use Rattle.tree_core.specs.Recorded.{tree_in}
-use Rattle.tree_core.specs.Written.{target}
 use Rattle.tree_core.specs.Writing.{Target}
 use Rattle.answer_writing.specs.Giving.{given, removes}
 use Rattle.action_core.specs.Running.{removes_all}

@@ -1,6 +1,6 @@
-use Rattle.std.proofs.Common.{◌≡◌, ℕ, ◌<◌, List, [], Result, Ok, Err, map, length, drop, drop_of_length-le, refl, sym, subst, arith}
+use Rattle.std.proofs.Common.{List, map, drop_of_length-le, refl, sym, subst, arith}
 use Rattle.expr_syntax.specs.Shown.{shown, expressions}
-use Rattle.answer_ops.specs.View.{answer_of, answers_of}
+use Rattle.answer_ops.specs.View.{answers_of}
 use Rattle.answer_ops.specs.declared.value.Value.{Value}
 use Rattle.eval_core.specs.Evaluating.{all_evaluated}
 use Rattle.plain_answers.specs.Plainness.{ArePlainAnswers}

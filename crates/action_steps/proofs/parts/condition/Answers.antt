@@ -1,17 +1,11 @@
-use Rattle.std.proofs.Common.{◌≡◌, ℕ, List, Bool, Result, Ok, Err, map, refl}
-use Rattle.expr_syntax.specs.Shown.{shown, expressions}
-use Rattle.answer_ops.specs.View.{answer_of, answers_of}
+use Rattle.std.proofs.Common.{Bool}
+use Rattle.expr_syntax.specs.Shown.{shown}
+use Rattle.answer_ops.specs.View.{answer_of}
 use Rattle.answer_ops.specs.declared.value.Value.{Value}
 use Rattle.eval_core.specs.Run.{andthen}
-use Rattle.eval_core.specs.Scope.{Scope}
-use Rattle.eval_core.specs.Evaluating.{evaluated, all_evaluated, truth}
-use Rattle.view_engine.specs.Asks.{items_evaluated}
-use Rattle.action_core.specs.Running.{two, three, items_read}
+use Rattle.eval_core.specs.Evaluating.{evaluated, truth}
 use Rattle.action_steps.specs.Acting.{env_of}
-use Rattle.action_steps.specs.Parts.{scope_in, telling_in, both_of, three_of, call_of}
-use Rattle.action_steps.specs.declared.parts.TwoParts.{TwoParts}
-use Rattle.action_steps.specs.declared.parts.ThreeParts.{ThreeParts}
-use Rattle.action_steps.specs.declared.parts.CallParts.{CallParts}
+use Rattle.action_steps.specs.Parts.{scope_in, telling_in}
 use Rattle.action_steps.proofs.Evaluations.{parts-act, part-handed, part-stop, part-then, truth-told}
 use Rattle.action_steps.proofs.parts.condition.Goals as goal
 

@@ -1,10 +1,9 @@
-use Rattle.std.proofs.Common.{◌≡◌, ℕ, List, Ok, Err, sym}
+use Rattle.std.proofs.Common.{Ok, Err, sym, ap, ◌∙◌}
 use Rattle.snap_core.specs.declared.number.NodeNo.{NodeNo}
 use Rattle.expr_syntax.specs.Shown.{shown}
 use Rattle.answer_ops.specs.View.{answer_of}
 use Rattle.answer_ops.specs.declared.value.Value.{Value}
 use Rattle.live_tree.specs.Contents.{state}
-use Rattle.tree_core.specs.declared.place.Place.{Place}
 use Rattle.eval_core.specs.Answer.{Answer}
 use Rattle.eval_core.specs.Evaluating.{evaluated}
 use Rattle.action_core.specs.Act.{Act}
@@ -40,10 +39,10 @@ returns-in-Ok g c = λ n.
     let parts = evaluates_in a (λ s. evaluated s (shown c.args.on.now) env) in
     let done : Answer → NodeNo → Act (Unit {0}) = λ x m. cleared_at a m in
     statement-done answer_of env a.running.frame parts (λ x. x) done c.in_ok-x.x c.in_ok-n.n c.remove_all.result _ _ _ (c.in_ok-x.ensures.did n) c.in_ok-n.ensures
-    (clear-done a c.in_ok-n.n c.in-Ok.places c.remove_all.result (point (state c.args.tree.now) n c.value.new.steps) _ c.in-Ok.ensures (c.remove_all.ensures n c.value.new.steps))
+    (clear-done a c.in_ok-n.n c.as_slice.result.now c.remove_all.result (point (state c.args.tree.now) n c.value.new.steps) _ (c.in-Ok.ensures ∙ ap Ok (sym c.as_slice.ensures)) (c.remove_all.ensures n c.value.new.steps))
 
-pub returns-in-Err : goal.returns-in-Err
-returns-in-Err g c = λ n.
+pub returns : goal.returns
+returns g c = λ n.
     let a = acting_of c.args.acting.now in
     let env = env_of c.args.env.now in
     let parts = evaluates_in a (λ s. evaluated s (shown c.args.on.now) env) in

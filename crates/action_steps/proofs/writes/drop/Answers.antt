@@ -1,20 +1,17 @@
-use Rattle.std.proofs.Common.{◌≡◌, ℕ, List, Result, Ok, Err, refl, sym, ap}
+use Rattle.std.proofs.Common.{sym, ap}
 use Rattle.snap_core.specs.declared.number.NodeNo.{NodeNo}
 use Rattle.expr_syntax.specs.Shown.{shown}
-use Rattle.answer_ops.specs.View.{answer_of}
-use Rattle.answer_ops.specs.declared.value.Value.{Value}
-use Rattle.answer_writing.specs.Giving.{sets, inserts, removes}
+use Rattle.answer_writing.specs.Giving.{removes}
 use Rattle.live_tree.specs.Contents.{state}
 use Rattle.tree_core.specs.Recorded.{tree_in}
 use Rattle.eval_core.specs.Answer.{Answer}
 use Rattle.eval_core.specs.Evaluating.{evaluated}
 use Rattle.action_core.specs.Act.{Act}
-use Rattle.action_core.specs.Running.{two, three, evaluates_in, writes_named}
+use Rattle.action_core.specs.Running.{two, evaluates_in, writes_named}
 use Rattle.action_core.specs.Statements as core
 use Rattle.action_steps.specs.Acting.{acting_of, env_of}
-use Rattle.action_steps.specs.Parts.{both_of, three_of}
+use Rattle.action_steps.specs.Parts.{both_of}
 use Rattle.action_steps.specs.declared.parts.TwoParts.{TwoParts}
-use Rattle.action_steps.specs.declared.parts.ThreeParts.{ThreeParts}
 use Rattle.action_steps.proofs.Statements.{at_node, statement-unmet, statement-no-node, statement-lost, statement-done, gives-plain}
 use Rattle.action_steps.proofs.writes.drop.Goals as goal
 

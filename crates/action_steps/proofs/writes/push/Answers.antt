@@ -1,22 +1,21 @@
-use Rattle.std.proofs.Common.{◌≡◌, ℕ, List, Result, Ok, Err, refl, sym, ap}
+use Rattle.std.proofs.Common.{ℕ, ap, ◌∙◌, Option}
 use Rattle.snap_core.specs.declared.number.NodeNo.{NodeNo}
 use Rattle.expr_syntax.specs.Shown.{shown}
 use Rattle.answer_ops.specs.View.{answer_of}
-use Rattle.answer_ops.specs.declared.value.Value.{Value}
-use Rattle.answer_writing.specs.Giving.{sets, inserts, removes}
+use Rattle.answer_writing.specs.Giving.{inserts}
 use Rattle.live_tree.specs.Contents.{state}
 use Rattle.tree_core.specs.Recorded.{tree_in}
 use Rattle.eval_core.specs.Answer.{Answer}
 use Rattle.eval_core.specs.Evaluating.{evaluated}
 use Rattle.action_core.specs.Act.{Act}
 use Rattle.action_core.specs.Behaving.{writes}
-use Rattle.action_core.specs.Running.{two, three, evaluates_in, writes_named}
+use Rattle.action_core.specs.Running.{two, evaluates_in}
 use Rattle.action_core.specs.Statements as core
 use Rattle.action_steps.specs.Acting.{acting_of, env_of}
-use Rattle.action_steps.specs.Parts.{both_of, three_of}
+use Rattle.action_steps.specs.Parts.{both_of}
 use Rattle.action_steps.specs.declared.parts.TwoParts.{TwoParts}
-use Rattle.action_steps.specs.declared.parts.ThreeParts.{ThreeParts}
 use Rattle.action_steps.proofs.Statements.{at_node, statement-unmet, statement-no-node, statement-lost, statement-done, gives-plain, pushed-as}
+use Rattle.std.specs.Option.{unwrap_or}
 use Rattle.action_steps.proofs.writes.push.Goals as goal
 
 pub returns-in_err-parts : goal.returns-in_err-parts
@@ -60,4 +59,4 @@ returns g c = λ n.
     let tree = tree_in (state c.args.tree.now) in
     statement-done both_of env a.running.frame parts (λ xs. xs.0) done c.in_ok-parts.parts c.in_ok-n.n c.write_named.result _ _ _ (c.in_ok-parts.ensures.did n) c.in_ok-n.ensures
     (c.write_named.ensures (core.pushed a.behaving.types a.running.nodes c.in_ok-n.n (answer_of c.in_ok-parts.parts.second)) n _
-    (pushed-as a.behaving.types a.running.nodes c.in_ok-n.n (answer_of c.in_ok-parts.parts.second) _ tree _ c.in_ok-naming.ensures ?))
+    (pushed-as a.behaving.types a.running.nodes c.in_ok-n.n (answer_of c.in_ok-parts.parts.second) _ tree _ c.in_ok-naming.ensures (c.unwrap_or-size.ensures ∙ ap (λ (o : Option ℕ). unwrap_or o 0) c.len.ensures)))

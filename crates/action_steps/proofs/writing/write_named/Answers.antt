@@ -1,15 +1,12 @@
 use Rattle.std.proofs.Common.{Err, refl}
 use Rattle.live_tree.specs.Contents.{state}
 use Rattle.tree_core.specs.Recorded.{tree_in}
-use Rattle.tree_core.specs.Written.{target}
-use Rattle.answer_writing.specs.Giving.{given}
-use Rattle.answer_writing.specs.View.{giving_of}
 use Rattle.action_core.specs.Statements as core
 use Rattle.action_steps.specs.Writes.{naming_of}
 use Rattle.action_steps.proofs.Written.{writes-as, writes-refused, named-at, named-unsuited}
 use Rattle.action_steps.proofs.writing.write_named.Goals as goal
 
-pub returns : goal.returns-in-None
+pub returns : goal.returns
 returns c =
     let frame = c.args.acting.now.frame.now in
     let types = c.args.acting.now.schema.now.types in
