@@ -15,7 +15,7 @@ use Rattle.model_syntax.specs.Shown.{ShownAction, ShownMiddleware, atomic, prote
 use Rattle.tree_core.specs.Recorded as recorded
 use Rattle.tree_core.specs.State.{patches_of}
 use Rattle.tree_core.specs.Writing.{Tree}
-use Rattle.eval_core.specs.Answer.{Answer, Answers, no_answers, answer}
+use Rattle.eval_core.specs.Answer.{Answer, AnswerList, no_answers, answer}
 use Rattle.eval_core.specs.Scope.{Viewing, property}
 use Rattle.action_core.specs.Act.{Ran, state_of}
 use Rattle.action_core.specs.Behaving.{Behaving}
@@ -104,7 +104,7 @@ behaving = record {
 
 -- What a request comes to.
 
-abbrev pub given : List Answer → Answers
+abbrev pub given : List Answer → AnswerList
 given [] = no_answers
 given (x ∷ xs) = answer x (given xs)
 

@@ -15,7 +15,7 @@ use Rattle.tree_core.specs.Changed.{Changed}
 use Rattle.tree_core.specs.Outcome.{refuse}
 use Rattle.tree_core.specs.Reading.{path_to}
 use Rattle.tree_core.specs.Writing.{Tree}
-use Rattle.eval_core.specs.Answer.{Answer, Answers, plain, node, several, no_answers, answer}
+use Rattle.eval_core.specs.Answer.{Answer, AnswerList, plain, node, several, no_answers, answer}
 use Rattle.answer_writing.specs.Giving as specs
 use Rattle.answer_writing.specs.Giving.{Giving, sets, inserts}
 use Rattle.action_core.proofs.Office.{types, number, items, call, post, one_todo, two_todos}
@@ -23,7 +23,7 @@ use Rattle.action_core.proofs.Office.{types, number, items, call, post, one_todo
 abbrev the : ℕ → Answer
 the n = node (number n)
 
-abbrev given : List Answer → Answers
+abbrev given : List Answer → AnswerList
 given [] = no_answers
 given (x ∷ xs) = answer x (given xs)
 

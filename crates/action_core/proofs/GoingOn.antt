@@ -4,7 +4,7 @@ use Rattle.std.specs.Prelude.{IfOk, IfSome, nat_lt}
 use Rattle.std.proofs.lemmas.Bool.Decides.{nat_tests}
 use Rattle.expr_syntax.specs.Syntax.{Expressions, Statement, Statements, no_more, more, set, put, push, insert, replace, drop, clear, apply, each, call, attempt, throw, done, run}
 use Rattle.model_syntax.specs.Shown.{ShownAction}
-use Rattle.eval_core.specs.Answer.{Answers, no_answers, answer}
+use Rattle.eval_core.specs.Answer.{AnswerList, no_answers, answer}
 use Rattle.eval_core.specs.Asking.{bound_at}
 use Rattle.eval_core.specs.Pairing.{Anything}
 use Rattle.eval_core.specs.Scope.{Env}
@@ -17,7 +17,7 @@ use Rattle.action_core.proofs.Kept.{called_kept}
 
 -- Nothing is asked of answers, expressions and states.
 
-fine : (xs : Answers) → AreFine Anything xs
+fine : (xs : AnswerList) → AreFine Anything xs
 fine no_answers = tt
 fine (answer x xs) = (tt, fine xs)
 

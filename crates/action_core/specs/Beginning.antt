@@ -20,7 +20,7 @@ use Rattle.edit_core.specs.Labelled.{Labelled}
 use Rattle.edit_core.specs.Typing.{is_kind}
 use Rattle.tree_core.specs.Reading.{kind_at}
 use Rattle.tree_core.specs.Outcome.{◌>>=◌, or_refuse}
-use Rattle.eval_core.specs.Answer.{Answer, Answers, plain, node, no_answers, answer}
+use Rattle.eval_core.specs.Answer.{Answer, AnswerList, plain, node, no_answers, answer}
 use Rattle.eval_core.specs.Asking.{bound_at}
 use Rattle.eval_core.specs.Scope.{Env}
 use Rattle.eval_core.specs.Sight.{Sight}
@@ -74,7 +74,7 @@ abbrev pub bound_before : List ℕ → Option (List Bound) → Argument → Opti
 bound_before name rest argument = option_map (λ bs. (name, argument) ∷ bs) rest
 
 -- the arguments, as many as there are parameters and each of its parameter's type
-abbrev pub arguments_of : Catalog → Labelled → List Param → Answers → Option (List Bound)
+abbrev pub arguments_of : Catalog → Labelled → List Param → AnswerList → Option (List Bound)
 arguments_of types root [] no_answers = Some []
 arguments_of types root (p ∷ ps) (answer x xs) =
     option_and_then (bound_before p.name (arguments_of types root ps xs)) (argument_of types root p.of.0 (parameter_target types p.of.0) x)

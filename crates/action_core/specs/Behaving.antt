@@ -15,7 +15,7 @@ use Rattle.tree_core.specs.Outcome.{refuse}
 use Rattle.tree_core.specs.Reading.{path_to}
 use Rattle.tree_core.specs.Recorded.{tree_in}
 use Rattle.tree_core.specs.Writing.{Tree}
-use Rattle.eval_core.specs.Answer.{Answer, Answers, node}
+use Rattle.eval_core.specs.Answer.{Answer, AnswerList, node}
 use Rattle.eval_core.specs.Asking.{frame_scope}
 use Rattle.eval_core.specs.Run.{Fault, Run, Eval}
 use Rattle.eval_core.specs.Scope.{Scope, Viewing}
@@ -42,7 +42,7 @@ pub record Running : Type 0 where
 pub record Callee : Type 0 where
   pub node : NodeNo
   pub name : List ℕ
-  pub given : Answers
+  pub given : AnswerList
 
 -- by what the statements of an action run
 pub record Acting : Type 0 where

@@ -7,7 +7,7 @@ use Rattle.model_syntax.specs.Shown.{ShownAction}
 use Rattle.tree_core.specs.Changed.{Changed}
 use Rattle.tree_core.specs.Recorded.{tree_in}
 use Rattle.tree_core.specs.Writing.{Target}
-use Rattle.eval_core.specs.Answer.{Answer, Answers, no_answers, answer}
+use Rattle.eval_core.specs.Answer.{Answer, AnswerList, no_answers, answer}
 use Rattle.eval_core.specs.Asking.{frame_scope, bound_at}
 use Rattle.eval_core.specs.Evaluating.{evaluated}
 use Rattle.eval_core.specs.Run.{Run}
@@ -25,7 +25,7 @@ abbrev pub EachFine : (Answer → Type 0) → List Answer → Type 0
 EachFine Fine [] = Unit {0}
 EachFine Fine (x ∷ xs) = Fine x × EachFine Fine xs
 
-abbrev pub AreFine : (Answer → Type 0) → Answers → Type 0
+abbrev pub AreFine : (Answer → Type 0) → AnswerList → Type 0
 AreFine Fine no_answers = Unit {0}
 AreFine Fine (answer x xs) = Fine x × AreFine Fine xs
 

@@ -6,7 +6,7 @@ use Rattle.pointer_core.specs.declared.refusal.Rule.TheVariants as rule
 use Rattle.type_core.specs.Making.{Refused}
 use Rattle.expr_syntax.specs.Syntax.{Statement, Statements, set, put, push, insert, replace, drop, clear, apply, each, call, attempt, throw, done, run}
 use Rattle.tree_core.specs.declared.place.Place.{Place}
-use Rattle.eval_core.specs.Answer.{Answer, Answers}
+use Rattle.eval_core.specs.Answer.{Answer, AnswerList}
 use Rattle.eval_core.specs.Run.{Eval, andthen}
 use Rattle.eval_core.specs.Scope.{Scope, Env}
 use Rattle.eval_core.specs.Scope as scope
@@ -83,7 +83,7 @@ abbrev pub rescues : Act (Unit {0}) → Refused → Act (Unit {0})
 rescues other e = if is_budget e.rule then tells (Err e) else other
 
 -- an action of the node that an answer is
-abbrev pub calls : Acting → Answer → List ℕ → Answers → Act (Unit {0})
+abbrev pub calls : Acting → Answer → List ℕ → AnswerList → Act (Unit {0})
 calls a x name xs = on_node a.running.frame x (λ n. a.call (record { node = n; name = name; given = xs }))
 
 -- a statement that binds no name

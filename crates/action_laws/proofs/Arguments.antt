@@ -21,7 +21,7 @@ use Rattle.edit_core.specs.Labelled.{Labelled}
 use Rattle.edit_core.specs.Typing.{is_kind}
 use Rattle.tree_core.specs.Outcome.{◌>>=◌, or_refuse}
 use Rattle.tree_core.specs.Reading.{kind_at}
-use Rattle.eval_core.specs.Answer.{Answer, Answers, plain, node, several, no_answers, answer}
+use Rattle.eval_core.specs.Answer.{Answer, AnswerList, plain, node, several, no_answers, answer}
 use Rattle.eval_core.specs.Scope.{Env}
 use Rattle.eval_core.specs.Sight.{Sight}
 use Rattle.plain_answers.specs.Plainness.{IsPlainAnswer}
@@ -93,7 +93,7 @@ before-plain : (name : List ℕ) (rest : Option (List Bound)) → IfSome rest Ar
 before-plain name (Some bs) h a fine = (fine, h)
 before-plain name None h a fine = tt
 
-arguments-plain : (types : Catalog) → IsSound types → (root : Labelled) (ps : List Param) (xs : Answers) → AreFine IsPlainAnswer xs
+arguments-plain : (types : Catalog) → IsSound types → (root : Labelled) (ps : List Param) (xs : AnswerList) → AreFine IsPlainAnswer xs
     → IfSome (arguments_of types root ps xs) ArePlainBound
 arguments-plain types sound root [] no_answers fine = tt
 arguments-plain types sound root [] (answer x xs) fine = tt

@@ -25,7 +25,7 @@ use Rattle.tree_laws.proofs.Settling.{settling-leads}
 use Rattle.tree_laws.proofs.SettlingSound.{settling-keeps}
 use Rattle.tree_laws.proofs.TreeRight.{writes-keep}
 use Rattle.tree_laws.proofs.Writes.{writes-lead}
-use Rattle.eval_core.specs.Answer.{Answer, Answers, no_answers, answer}
+use Rattle.eval_core.specs.Answer.{Answer, AnswerList, no_answers, answer}
 use Rattle.eval_core.specs.Asking.{most_views}
 use Rattle.eval_core.specs.Evaluating.{evaluated}
 use Rattle.eval_core.specs.Scope.{Env}
@@ -55,7 +55,7 @@ pub env-plain : (env : Env) → IsFineEnv IsPlainAnswer env → IsPlainEnv env
 env-plain [] h = tt
 env-plain (b ∷ bs) h = (h.0, env-plain bs h.1)
 
-pub fine-given : (xs : Answers) → ArePlainAnswers xs → AreFine IsPlainAnswer xs
+pub fine-given : (xs : AnswerList) → ArePlainAnswers xs → AreFine IsPlainAnswer xs
 fine-given no_answers h = tt
 fine-given (answer x xs) h = (h.0, fine-given xs h.1)
 

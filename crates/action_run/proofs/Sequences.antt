@@ -10,7 +10,7 @@ use Rattle.answer_ops.specs.declared.value.Value.{Value}
 use Rattle.plain_answers.specs.EachExpression.{HoldsInEach}
 use Rattle.plain_answers.specs.Plainness.{HasPlainConstants, HavePlainConstants}
 use Rattle.snap_core.specs.declared.number.NodeNo.{NodeNo}
-use Rattle.eval_core.specs.Answer.{Answer, Answers}
+use Rattle.eval_core.specs.Answer.{Answer, AnswerList}
 use Rattle.eval_core.specs.Scope.{Env}
 use Rattle.view_engine.specs.declared.halt.RunError.{RunError}
 use Rattle.view_engine.specs.declared.names.Env.{Env as Bound}
@@ -154,6 +154,6 @@ pub turns-left : {A : Type 0} (seen : Unit {0} → A) (whole : Act A) (body : An
     → Leaves seen (over_each body (map answer_of opened)) whole a m → Leaves seen (over_each body (map answer_of all)) whole a m
 turns-left seen whole body all opened a m e left = subst (λ x. Leaves seen (over_each body (map answer_of x)) whole a m) (sym e) left
 
-pub call-named : (by : Acting) (n : NodeNo) (name other : List ℕ) (given : Answers) (r : Done) (a b : Point) → other ≡ name
+pub call-named : (by : Acting) (n : NodeNo) (name other : List ℕ) (given : AnswerList) (r : Done) (a b : Point) → other ≡ name
     → Acts (λ u. u) r (by.call (record { node = n; name = other; given = given })) a b → Acts (λ u. u) r (by.call (record { node = n; name = name; given = given })) a b
 call-named by n name other given r a b is did = subst (λ (x : List ℕ). Acts {T = Unit {0}} (λ u. u) r (by.call (record { node = n; name = x; given = given })) a b) is did

@@ -5,7 +5,7 @@ use Rattle.std.proofs.lemmas.List.Elements.{All-cons, All-nil}
 use Rattle.expr_syntax.specs.Syntax.{Expression, collect}
 use Rattle.expr_syntax.specs.Syntax as syntax
 use Rattle.eval_core.specs.declared.site.Site.{Site}
-use Rattle.eval_core.specs.Answer.{Answer, Answers, several, answer, no_answers, with_last}
+use Rattle.eval_core.specs.Answer.{Answer, AnswerList, several, answer, no_answers, with_last}
 use Rattle.eval_core.specs.Evaluating.{evaluated, told}
 use Rattle.eval_core.specs.Run.{Fault, Run, Eval, andthen, continued, joined, ended, lift}
 use Rattle.eval_core.specs.Scope.{Scope, Env, gives, judged}
@@ -32,7 +32,7 @@ use Rattle.action_steps.specs.Parts.{Evaluates}
 use Rattle.action_steps.proofs.PartsLeft.{part-alike}
 
 -- answers that are gathered one behind the other
-abbrev behind : Answers → List Answer → Answers
+abbrev behind : AnswerList → List Answer → AnswerList
 behind xs [] = xs
 behind xs (y ∷ ys) = behind (with_last xs y) ys
 
@@ -48,7 +48,7 @@ behind-from ws (x ∷ xs) =
 abbrev as_given : Answer → Eval Answer
 as_given y = gives y
 
-one_read : (s : Scope) (i : Item) (is : List Item) (xs : Answers) (n : ℕ)
+one_read : (s : Scope) (i : Item) (is : List Item) (xs : AnswerList) (n : ℕ)
     → Alike (walk_over s collect as_given (i ∷ is) (several xs) n) (andthen (read_item s i) (λ x. walk_over s collect as_given is (several (with_last xs x))) n)
 one_read s i is xs n =
     let rest : Answer → Eval Answer = λ more. walk_over s collect as_given is more in
@@ -67,7 +67,7 @@ read_first s i is f n =
     (alike-then (all_read s is) (all_read s is) (λ ys. andthen (gives (x ∷ ys)) g) (λ ys. gives (f (x ∷ ys))) m (alike-same (all_read s is m)) (λ ys k. alike-gives (x ∷ ys) g k))))
 
 -- a walk that collects what it walks
-collects : (s : Scope) (is : List Item) (xs : Answers) (n : ℕ)
+collects : (s : Scope) (is : List Item) (xs : AnswerList) (n : ℕ)
     → Alike (walk_over s collect as_given is (several xs) n) (andthen (all_read s is) (λ ys. gives (several (behind xs ys))) n)
 collects s [] xs n = alike-sym _ _ (alike-gives [] (λ ys. gives (several (behind xs ys))) n)
 collects s (i ∷ is) xs n =

@@ -3,7 +3,7 @@ use Rattle.std.specs.Prelude.{◌≡◌, Bool, Result, Ok, Err}
 use Rattle.pointer_core.specs.Path.{Path}
 use Rattle.pointer_core.specs.declared.refusal.Rule.TheVariants as rule
 use Rattle.live_tree.specs.Contents.{Contents, state}
-use Rattle.eval_core.specs.Answer.{Answer, Answers}
+use Rattle.eval_core.specs.Answer.{Answer, AnswerList}
 use Rattle.eval_core.specs.Asking.{frame_scope}
 use Rattle.eval_core.specs.Operating.{truth_in}
 use Rattle.eval_core.specs.Run.{Eval}
@@ -62,5 +62,5 @@ both_of xs = (answer_of xs.first, answer_of xs.second)
 abbrev pub three_of : ThreeParts → Answer × Answer × Answer
 three_of xs = (answer_of xs.first, answer_of xs.second, answer_of xs.third)
 
-abbrev pub call_of : CallParts → Answer × Answers
+abbrev pub call_of : CallParts → Answer × AnswerList
 call_of parts = (answer_of parts.on, answers_of parts.args)

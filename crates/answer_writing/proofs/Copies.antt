@@ -9,7 +9,7 @@ use Rattle.snap_core.specs.View.{view, items_view}
 use Rattle.edit_core.specs.Labelled as edits
 use Rattle.node_core.specs.declared.labelled.Labelled.{Labelled}
 use Rattle.node_core.specs.View.{labelled, items}
-use Rattle.eval_core.specs.Answer.{Answer, Answers, answer}
+use Rattle.eval_core.specs.Answer.{Answer, AnswerList, answer}
 use Rattle.answer_ops.specs.declared.value.Value as coded
 use Rattle.answer_ops.specs.View.{answer_of, answers_of}
 use Rattle.answer_writing.specs.Taking.{Aim, plain_in, plains_in}
@@ -39,7 +39,7 @@ before-all [] = refl
 before-all (s ∷ ss) = ap (one_before (view s)) (before-all ss)
 
 -- the first plain value, in front of the others
-pub first-plain : (x : Answer) (xs : Answers) (v : Value) → plain_in x ≡ Some v → plains_in (answer x xs) ≡ one_before v (plains_in xs)
+pub first-plain : (x : Answer) (xs : AnswerList) (v : Value) → plain_in x ≡ Some v → plains_in (answer x xs) ≡ one_before v (plains_in xs)
 first-plain x xs v e = ap (λ (o : Option Value). option_and_then (λ w. option_map (λ qs. part w qs) (plains_in xs)) o) e
 
 module _ (xs : List coded.Value) (i : ℕ) (made : List Snap) (so_far : plain_before made (plains_in (answers_of (drop i xs))) ≡ plains_in (answers_of xs)) where

@@ -21,7 +21,7 @@ use Rattle.tree_core.specs.Reading.{kind_at, identifier_in}
 use Rattle.tree_core.specs.TypesTyping.{typing_of}
 use Rattle.tree_core.proofs.PartFacts.{plain-part}
 use Rattle.tree_core.proofs.PlaceKeeping.{way-stands}
-use Rattle.eval_core.specs.Answer.{Answer, Answers, plain, node, several, no_answers, answer}
+use Rattle.eval_core.specs.Answer.{Answer, AnswerList, plain, node, several, no_answers, answer}
 use Rattle.eval_core.specs.Reading.{ident_value}
 use Rattle.plain_answers.specs.Plainness.{IsPlainAnswer, ArePlainAnswers}
 use Rattle.answer_writing.specs.Taking.{Taking, Aim, plain_in, plains_in, model_at, items_at, item_aim, node_value, node_made, is_large, unless_large, plain_made, items_taken, list_taken, answer_made, answers_made}
@@ -43,7 +43,7 @@ mutual
   value-plain (node n) fine = tt
   value-plain (several xs) fine = mapped ArePlain IsPlain (λ ps. list tt ps) (plains_in xs) (λ ps h. h) (values-plain xs fine)
 
-  pub values-plain : (xs : Answers) → ArePlainAnswers xs → IfSome (plains_in xs) ArePlain
+  pub values-plain : (xs : AnswerList) → ArePlainAnswers xs → IfSome (plains_in xs) ArePlain
   values-plain no_answers fine = tt
   values-plain (answer x xs) fine = joined (plain_in x) (plains_in xs) (value-plain x fine.0) (values-plain xs fine.1)
 
@@ -142,6 +142,6 @@ module _ (by : Taking) (sound : IsSound by.types) (whole : IsPlain (bare by.root
     made-plain (node n) fine aim = target-plain n (model_at by aim)
     made-plain (several xs) fine aim = listed-plain aim (answers_made by xs (items_under aim.held)) (plains_in xs) (all-plain xs fine (items_under aim.held)) (values-plain xs fine)
 
-    all-plain : (xs : Answers) → ArePlainAnswers xs → (held : List Labelled) → AllPlain (answers_made by xs held)
+    all-plain : (xs : AnswerList) → ArePlainAnswers xs → (held : List Labelled) → AllPlain (answers_made by xs held)
     all-plain no_answers fine held = tt
     all-plain (answer x xs) fine held = ((λ t. made-plain x fine.0 (item_aim x t held)), all-plain xs fine.1 (drop 1 held))

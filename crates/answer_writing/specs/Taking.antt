@@ -17,7 +17,7 @@ use Rattle.edit_core.specs.Typing.{label_of, is_kind}
 use Rattle.tree_core.specs.TypesTyping.{typing_of}
 use Rattle.tree_core.specs.Asking.{referred_by}
 use Rattle.tree_core.specs.Reading.{node_of, kind_at, identifier_in}
-use Rattle.eval_core.specs.Answer.{Answer, Answers, plain, node, several, no_answers, answer}
+use Rattle.eval_core.specs.Answer.{Answer, AnswerList, plain, node, several, no_answers, answer}
 use Rattle.eval_core.specs.Reading.{ident_value}
 
 -- by what answers are taken: the types, and the snapshot whose nodes stand in them
@@ -37,7 +37,7 @@ abbrev mutual
   plain_in (node n) = None
   plain_in (several xs) = option_map (λ ps. list tt ps) (plains_in xs)
 
-  pub plains_in : Answers → Option Items
+  pub plains_in : AnswerList → Option Items
   plains_in no_answers = Some no_parts
   plains_in (answer x xs) = option_and_then (λ v. option_map (λ ps. part v ps) (plains_in xs)) (plain_in x)
 
@@ -86,7 +86,7 @@ abbrev mutual
   fault_in by (node n) aim = node_fault by n aim
   fault_in by (several xs) aim = option_and_then (λ t. fault_among by xs t (items_under aim.held)) (items_at by aim)
 
-  pub fault_among : Taking → Answers → ℕ → List Labelled → Option Rule
+  pub fault_among : Taking → AnswerList → ℕ → List Labelled → Option Rule
   fault_among by no_answers t held = None
   fault_among by (answer x xs) t held = or_later (fault_in by x (item_aim x t held)) (fault_among by xs t (drop 1 held))
 
@@ -137,6 +137,6 @@ abbrev mutual
   answer_made by (several xs) aim = list_taken by aim (answers_made by xs (items_under aim.held)) (plains_in xs)
 
   -- the items, each beside what stands at its index
-  pub answers_made : Taking → Answers → List Labelled → List Maker
+  pub answers_made : Taking → AnswerList → List Labelled → List Maker
   answers_made by no_answers held = []
   answers_made by (answer x xs) held = (λ t. answer_made by x (item_aim x t held)) ∷ answers_made by xs (drop 1 held)

@@ -1,7 +1,6 @@
 //! Places that answers with nodes are given to.
-ghost use Rattle.std.specs.Prelude.{◌≡◌, ◌++◌, ℕ, None, Ok, Err, length, if◌then◌else◌};
+ghost use Rattle.std.specs.Prelude.{◌≡◌, ℕ, None, Ok, Err, length, if◌then◌else◌};
 ghost use Rattle.std.specs.Option.{option_copied, option_map};
-ghost use Rattle.list_core.specs.Outcome.{Gives};
 ghost use Rattle.snap_core.specs.Value.{Value as Made};
 ghost use Rattle.snap_core.specs.View.{view};
 ghost use Rattle.eval_core.specs.Answer.{Answer};
@@ -16,7 +15,6 @@ ghost use Rattle.tree_core.specs.Nodes.{type_at};
 ghost use Rattle.tree_core.specs.Outcome.{seen_from};
 ghost use Rattle.tree_core.specs.TypesTyping.{typing_of, root_type};
 ghost use Rattle.tree_core.specs.Written.{target, tree};
-ghost use Rattle.tree_core.specs.Writing.{place_tokens, path_of};
 ghost use Rattle.plain_answers.specs.Plainness.{IsPlainAnswer};
 ghost use Rattle.answer_ops.specs.View.{answer_of};
 ghost use Rattle.answer_writing.specs.Giving as specs;
@@ -29,11 +27,13 @@ use crate::manner::{Manner, change_by};
 use crate::taking::{Taking, fault_in};
 use answer_ops::Value;
 use edit_core::Kind;
-use node_core::{Labelled, Turn, pointer_of};
+use node_core::{Labelled, Turn};
 use pointer_core::{Pointer, Refusal, Rule};
-use snap_core::{Snap, Txt, TypeNo};
-use std::alloc::{AllocError, Global};
-use tree_core::{Place, Target, Tree, TreeError, part_type, refuse, write_place};
+use snap_core::{Snap, TypeNo};
+use std::alloc::Global;
+use tree_core::{
+    Place, Target, Tree, TreeError, joined, part_type, path_of_place, refuse, write_place,
+};
 use tree_reading::{part_of, type_at};
 use type_core::Types;
 
@@ -158,7 +158,7 @@ fn take(
     };
     let of = type_of_place(types, site, place);
     let held = held_for(manner, place, site.node);
-    let path = place_path(alloc, site.way, place)?;
+    let path = path_of_place(alloc, site.way, place)?;
     match fault_in(alloc, &by, answer, of, held) {
         Some(Rule::Dead) => Err(refuse(Pointer::new(alloc), Rule::Dead)),
         Some(rule) => Err(refuse(path, rule)),
@@ -210,38 +210,14 @@ fn held_for<'a>(manner: Manner, place: &Place, node: &'a Labelled) -> Option<&'a
     }
 }
 
-/// The path of a place of the node at the end of a way.
-fn place_path(alloc: Global, way: &[Turn], place: &Place) -> Result<Pointer, AllocError>
-    ensures { Gives result (path_of (nodes.way way.now) ++ place_tokens place.now) }
-{
-    let mut path = pointer_of(alloc, way)?;
-    match place {
-        Place::Whole(_) => {}
-        Place::Prop(_, key) | Place::Key(_, key) => path.push(key.clone_in()?)?,
-        Place::Item(_, index) => path.push(Txt::from_string(format!(in alloc; "{index}")?))?,
-    }
-    Ok(path)
-}
-
 /// What making came to, as it reads from the place that a path leads to.
 fn at_place(path: Pointer, made: Result<Snap, TreeError>) -> Result<Snap, TreeError>
     ensures { (outcome : Outcome Made) → Answers view made outcome → Answers view result (seen_from path outcome) }
 {
     match made {
         Err(TreeError::Refused(Refusal { path: rest, rule })) => {
-            Err(refuse(joined(path, &rest)?, rule))
+            Err(refuse(joined(&path, &rest)?, rule))
         }
         made => made,
     }
-}
-
-/// A path behind another.
-fn joined(first: Pointer, rest: &Pointer) -> Result<Pointer, AllocError>
-    ensures { Gives result (first ++ rest.now) }
-{
-    let mut path = first;
-    for token in rest.tokens() {
-        path.push(token.clone_in()?)?;
-    }
-    Ok(path)
 }

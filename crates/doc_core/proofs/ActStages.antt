@@ -20,7 +20,7 @@ use Rattle.expr_core.specs.Plain.{HavePlainConstants, HavePlainActions}
 use Rattle.expr_core.specs.Schema.{Schema, behaviours_shown, views_in, views_of}
 use Rattle.expr_core.proofs.Lists.{map-map}
 use Rattle.model_syntax.specs.Shown.{ShownView, ShownBehaviour, behaviour_shown}
-use Rattle.eval_core.specs.Answer.{Answers}
+use Rattle.eval_core.specs.Answer.{AnswerList}
 use Rattle.plain_answers.specs.Plainness.{ArePlainAnswers}
 use Rattle.action_core.specs.Act.{Ran}
 use Rattle.action_core.specs.Behaving.{Callee}
@@ -75,12 +75,12 @@ module _ (types : Catalog) (sound : IsSound types) (ran : Ran (Unit {0})) (typed
 
 -- the action of the node at a place that a pointer names, with arguments that are these values
 module _ (types : Catalog) (behaviours : List ShownBehaviour) (path : Path) (name : List ℕ) (args : Items) (s : State) (place : Place) (at : place_at path s.tree ≡ Ok place)
-    (n : NodeNo) (there : Some n ≡ node_there types place s.tree) (xs : Answers) (same : xs ≡ plain_answers args) where
+    (n : NodeNo) (there : Some n ≡ node_there types place s.tree) (xs : AnswerList) (same : xs ≡ plain_answers args) where
   pub act-stages : (now : State) (result : Result Staged DocError) → StagesAct result (after_run types (run_of types behaviours (record { node = n; name = name; given = xs }) s)) now
       → StagesAct result (acted_on types behaviours path name args s) now
   act-stages now result stages =
       let P : Outcome Acted → Type 0 = λ o. StagesAct result o now in
-      let Q : Answers → Type 0 = λ ys. StagesAct result (after_run types (run_of types behaviours (record { node = n; name = name; given = ys }) s)) now in
+      let Q : AnswerList → Type 0 = λ ys. StagesAct result (after_run types (run_of types behaviours (record { node = n; name = name; given = ys }) s)) now in
       subst P (sym (acted-there types behaviours path name args s place at n there)) (subst Q same stages)
 
   pub act-takes : (before after : ℕ) (result : Result Staged DocError)
@@ -88,8 +88,8 @@ module _ (types : Catalog) (behaviours : List ShownBehaviour) (path : Path) (nam
       → TakesSteps result (most_act_steps types behaviours path name args s) before after
   act-takes before after result few =
       let P : ℕ → Type 0 = λ k. TakesSteps result k before after in
-      let Q : Answers → Type 0 = λ ys. TakesSteps result (spent (run_of types behaviours (record { node = n; name = name; given = ys }) s).state.met) before after in
+      let Q : AnswerList → Type 0 = λ ys. TakesSteps result (spent (run_of types behaviours (record { node = n; name = name; given = ys }) s).state.met) before after in
       subst P (sym (steps-there types behaviours path name args s place at n there)) (subst Q same few)
 
-pub given-plain : (vs : Items) (xs : Answers) → xs ≡ plain_answers vs → ArePlain vs → ArePlainAnswers xs
-given-plain vs xs same plain = let P : Answers → Type 0 = λ ys. ArePlainAnswers ys in subst P (sym same) (plain-given vs plain)
+pub given-plain : (vs : Items) (xs : AnswerList) → xs ≡ plain_answers vs → ArePlain vs → ArePlainAnswers xs
+given-plain vs xs same plain = let P : AnswerList → Type 0 = λ ys. ArePlainAnswers ys in subst P (sym same) (plain-given vs plain)

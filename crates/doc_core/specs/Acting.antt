@@ -18,7 +18,7 @@ use Rattle.tree_core.specs.State.{State, patches_of}
 use Rattle.tree_reading.specs.declared.held.Held.{Held}
 use Rattle.tree_reading.specs.declared.held.Held.TheVariants.{Node}
 use Rattle.tree_reading.specs.Held.{held_at}
-use Rattle.eval_core.specs.Answer.{Answers, plain, no_answers, answer}
+use Rattle.eval_core.specs.Answer.{AnswerList, plain, no_answers, answer}
 use Rattle.action_core.specs.Act.{Ran, state_of}
 use Rattle.action_core.specs.Behaving.{Callee}
 use Rattle.action_core.specs.Calling.{acted}
@@ -43,7 +43,7 @@ node_pointed types path name root = do
 
 -- The action, called with plain values.
 
-abbrev pub plain_answers : Items → Answers
+abbrev pub plain_answers : Items → AnswerList
 plain_answers no_parts = no_answers
 plain_answers (part v vs) = answer (plain v) (plain_answers vs)
 

@@ -2,7 +2,7 @@
 use Rattle.std.proofs.Common.{List, [], ◌∷◌, Option, Some, None, Result, Ok, Err}
 use Rattle.std.specs.Prelude.{IfOk}
 use Rattle.snap_core.specs.declared.number.NodeNo.{NodeNo}
-use Rattle.eval_core.specs.Answer.{Answer, Answers, plain, node, several, no_answers, answer}
+use Rattle.eval_core.specs.Answer.{Answer, AnswerList, plain, node, several, no_answers, answer}
 use Rattle.eval_core.specs.Sight.{Held, holds, stands, refers, Entry}
 use Rattle.eval_core.specs.Scope.{Env}
 use Rattle.eval_core.specs.Run.{Fault}
@@ -39,7 +39,7 @@ mutual
   any-answer (node n) = tt
   any-answer (several xs) = any-answers xs
 
-  any-answers : (xs : Answers) → InAnswers Any xs
+  any-answers : (xs : AnswerList) → InAnswers Any xs
   any-answers no_answers = tt
   any-answers (answer x xs) = (any-answer x, any-answers xs)
 

@@ -6,7 +6,7 @@ use Rattle.snap_core.specs.Value.{Value, null, boolean}
 use Rattle.snap_core.specs.declared.number.NodeNo.{NodeNo}
 use Rattle.pointer_core.specs.declared.refusal.Rule.{Rule}
 use Rattle.expr_syntax.specs.Syntax.{Expression, Expressions, Members, Telling, collect, keys, items, snapshot, path, constant, variable, own, get, ref, one_sided, two_sided, telling, walk, both, either, choice, bind, list, make, find, is, no_more, more, no_members, member}
-use Rattle.eval_core.specs.Answer.{Answer, Answers, plain, several, no_answers, answer}
+use Rattle.eval_core.specs.Answer.{Answer, AnswerList, plain, several, no_answers, answer}
 use Rattle.eval_core.specs.Run.{Eval, andthen}
 use Rattle.eval_core.specs.Scope.{Env, bound_in}
 use Rattle.eval_core.specs.Operating.{truth_in}
@@ -23,7 +23,7 @@ use Rattle.eval_core.proofs.Walks.{InItems, walking, walking_over, start-good}
 use Rattle.eval_core.proofs.Makings.{InMade, making, snapping}
 
 -- an expression is counted, and what it gives is bounded
-counting : (p : Pairing) (e f : Eval Answer) → Steps.Answers p e f → Steps.Answers p (counted (left_scope p) e) (counted (right_scope p) f)
+counting : (p : Pairing) (e f : Eval Answer) → Steps.ArePaired p e f → Steps.ArePaired p (counted (left_scope p) e) (counted (right_scope p) f)
 counting p e f h =
     p.thens (Unit {0}) Answer Anything (InAnswer p.Good) _ _ _ _ p.counting (λ one any. going_on p e f _ _ h (λ x good. bounding p x good))
 
@@ -37,12 +37,12 @@ truth-any x = by_outcome (truth_in x)
 being_true : (p : Pairing) (x : Answer) → p.Rel Bool Anything (truth (left_scope p) x) (truth (right_scope p) x)
 being_true p x = judging p Bool Anything (truth_in x) (truth-any x)
 
-true_of : (p : Pairing) (e f : Eval Answer) → Steps.Answers p e f → Steps.Answers p (truth_of (left_scope p) e) (truth_of (right_scope p) f)
+true_of : (p : Pairing) (e f : Eval Answer) → Steps.ArePaired p e f → Steps.ArePaired p (truth_of (left_scope p) e) (truth_of (right_scope p) f)
 true_of p e f h = going_on p e f _ _ h (λ x good. p.thens Bool Answer Anything (InAnswer p.Good) _ _ _ _ (being_true p x) (λ b any. plainly p (boolean b)))
 
 -- one of two evaluations, by a truth
-by_truth : (p : Pairing) (x : Answer) (e f then_e then_f : Eval Answer) → Steps.Answers p e then_e → Steps.Answers p f then_f
-    → Steps.Answers p (andthen (truth (left_scope p) x) (λ t. if t then e else f)) (andthen (truth (right_scope p) x) (λ t. if t then then_e else then_f))
+by_truth : (p : Pairing) (x : Answer) (e f then_e then_f : Eval Answer) → Steps.ArePaired p e then_e → Steps.ArePaired p f then_f
+    → Steps.ArePaired p (andthen (truth (left_scope p) x) (λ t. if t then e else f)) (andthen (truth (right_scope p) x) (λ t. if t then then_e else then_f))
 by_truth p x e f then_e then_f h k =
     p.thens Bool Answer Anything (InAnswer p.Good) _ _ _ _ (being_true p x) (λ t any. choosing p Answer (InAnswer p.Good) t e f then_e then_f h k)
 
@@ -56,11 +56,11 @@ bound-good Good x (b ∷ bs) good y h = by_test (bytes_eq x b.0) (λ g. bound-go
     by_test false further g = further g
 
 binding : (p : Pairing) (o : Option Answer) → ((y : Answer) → o ≡ Some y → InAnswer p.Good y)
-    → Steps.Answers p (bound_answer (left_scope p) o) (bound_answer (right_scope p) o)
+    → Steps.ArePaired p (bound_answer (left_scope p) o) (bound_answer (right_scope p) o)
 binding p (Some x) good = Steps.given p Answer (InAnswer p.Good) x (good x refl)
 binding p None good = none p Rule.Kind
 
-telling_of : (p : Pairing) (t : Telling) (x : Answer) → InAnswer p.Good x → Steps.Answers p (told (left_scope p) t x) (told (right_scope p) t x)
+telling_of : (p : Pairing) (t : Telling) (x : Answer) → InAnswer p.Good x → Steps.ArePaired p (told (left_scope p) t x) (told (right_scope p) t x)
 telling_of p keys x good = Readings.keys p x good
 telling_of p items x good =
     p.thens (List Item) Answer (InItems p.Good) (InAnswer p.Good) _ _ _ _ (walking p x good)
@@ -70,7 +70,7 @@ telling_of p path x good = Readings.path p x good
 
 mutual
   pub evaluating : (p : Pairing) (e : Expression) (env : Env) → InEnv p.Good env
-      → Steps.Answers p (evaluated (left_scope p) e env) (evaluated (right_scope p) e env)
+      → Steps.ArePaired p (evaluated (left_scope p) e env) (evaluated (right_scope p) e env)
   evaluating p (constant v) env good = counting p _ _ (plainly p v)
   evaluating p (variable x) env good = counting p _ _ (binding p (bound_in x env) (bound-good p.Good x env good))
   evaluating p (own name) env good = counting p _ _ (owning p name (bound_in (codes "self") env) (bound-good p.Good (codes "self") env good))
@@ -95,7 +95,7 @@ mutual
       by_truth p x _ _ _ _ (evaluating p a env good) (evaluating p b env good)))
   evaluating p (bind x e b) env good = counting p _ _ (going_on p _ _ _ _ (evaluating p e env good) (λ y fine. evaluating p b ((x, y) ∷ env) (fine, good)))
   evaluating p (list es) env good =
-      counting p _ _ (p.thens Answers Answer (InAnswers p.Good) (InAnswer p.Good) _ _ _ _ (evaluating_all p es env good)
+      counting p _ _ (p.thens AnswerList Answer (InAnswers p.Good) (InAnswer p.Good) _ _ _ _ (evaluating_all p es env good)
       (λ xs fine. Steps.given p Answer (InAnswer p.Good) (several xs) fine))
   evaluating p (make ms) env good =
       counting p _ _ (p.thens (List Made) Answer (InMade p.Good) (InAnswer p.Good) _ _ _ _ (evaluating_members p ms env good) (λ xs fine. making p xs fine))
@@ -103,12 +103,12 @@ mutual
   evaluating p (is e m) env good = counting p _ _ (going_on p _ _ _ _ (evaluating p e env good) (λ x fine. being_model p m x fine))
 
   evaluating_all : (p : Pairing) (es : Expressions) (env : Env) → InEnv p.Good env
-      → p.Rel Answers (InAnswers p.Good) (all_evaluated (left_scope p) es env) (all_evaluated (right_scope p) es env)
-  evaluating_all p no_more env good = Steps.given p Answers (InAnswers p.Good) no_answers tt
+      → p.Rel AnswerList (InAnswers p.Good) (all_evaluated (left_scope p) es env) (all_evaluated (right_scope p) es env)
+  evaluating_all p no_more env good = Steps.given p AnswerList (InAnswers p.Good) no_answers tt
   evaluating_all p (more e es) env good =
-      p.thens Answer Answers (InAnswer p.Good) (InAnswers p.Good) _ _ _ _ (evaluating p e env good) (λ x fine.
-      p.thens Answers Answers (InAnswers p.Good) (InAnswers p.Good) _ _ _ _ (evaluating_all p es env good)
-      (λ xs also. Steps.given p Answers (InAnswers p.Good) (answer x xs) (fine, also)))
+      p.thens Answer AnswerList (InAnswer p.Good) (InAnswers p.Good) _ _ _ _ (evaluating p e env good) (λ x fine.
+      p.thens AnswerList AnswerList (InAnswers p.Good) (InAnswers p.Good) _ _ _ _ (evaluating_all p es env good)
+      (λ xs also. Steps.given p AnswerList (InAnswers p.Good) (answer x xs) (fine, also)))
 
   evaluating_members : (p : Pairing) (ms : Members) (env : Env) → InEnv p.Good env
       → p.Rel (List Made) (InMade p.Good) (members_evaluated (left_scope p) ms env) (members_evaluated (right_scope p) ms env)

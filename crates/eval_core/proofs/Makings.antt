@@ -4,7 +4,7 @@ use Rattle.std.specs.Prelude.{IfOk}
 use Rattle.snap_core.specs.Value.{Value, list, Items, Fields, no_parts, part, no_members}
 use Rattle.snap_core.specs.declared.number.NodeNo.{NodeNo}
 use Rattle.pointer_core.specs.declared.refusal.Rule.{Rule}
-use Rattle.eval_core.specs.Answer.{Answer, Answers, plain, node, several, no_answers, answer}
+use Rattle.eval_core.specs.Answer.{Answer, AnswerList, plain, node, several, no_answers, answer}
 use Rattle.eval_core.specs.Scope.{judged}
 use Rattle.eval_core.specs.Making.{node_made, list_made, made_value, made_values, Made, with_field, field_made, fields_made, as_record, record_made, snapshot_of, snapshots_of}
 use Rattle.eval_core.specs.Pairing.{Pairing, left_scope, right_scope, InAnswer, InAnswers, Anything}
@@ -23,7 +23,7 @@ mutual
   made-same p (node n) good = ap node_made (p.beings n good)
   made-same p (several xs) good = ap list_made (all_made-same p xs good)
 
-  all_made-same : (p : Pairing) (xs : Answers) → InAnswers p.Good xs → made_values p.left xs ≡ made_values p.right xs
+  all_made-same : (p : Pairing) (xs : AnswerList) → InAnswers p.Good xs → made_values p.left xs ≡ made_values p.right xs
   all_made-same p no_answers good = refl
   all_made-same p (answer x xs) good = rw (made-same p x good.0, all_made-same p xs good.1)
 
@@ -43,10 +43,10 @@ record-good Good (Ok ms) = tt
 record-good Good (Err rule) = tt
 
 pub making : (p : Pairing) (more : List Made) → InMade p.Good more
-    → Steps.Answers p (judged (left_scope p) (record_made p.left more)) (judged (right_scope p) (record_made p.right more))
+    → Steps.ArePaired p (judged (left_scope p) (record_made p.left more)) (judged (right_scope p) (record_made p.right more))
 making p more good =
     let same : record_made p.left more ≡ record_made p.right more = ap as_record (fields-same p more no_members good) in
-    let Family : Result Answer Rule → Type 0 = λ o. Steps.Answers p (judged (left_scope p) (record_made p.left more)) (judged (right_scope p) o) in
+    let Family : Result Answer Rule → Type 0 = λ o. Steps.ArePaired p (judged (left_scope p) (record_made p.left more)) (judged (right_scope p) o) in
     subst Family same (judging p Answer (InAnswer p.Good) (record_made p.left more) (record-good p.Good (fields_made p.left more no_members)))
 
 mutual
@@ -55,7 +55,7 @@ mutual
   snapping p (node n) good = kinds p Value Anything n _ _ good (λ kind. p.wholes n good)
   snapping p (several xs) good = p.thens Items Value Anything Anything _ _ _ _ (snapping_all p xs good) (λ ps any. Steps.given p Value Anything (list tt ps) tt)
 
-  snapping_all : (p : Pairing) (xs : Answers) → InAnswers p.Good xs → p.Rel Items Anything (snapshots_of (left_scope p) xs) (snapshots_of (right_scope p) xs)
+  snapping_all : (p : Pairing) (xs : AnswerList) → InAnswers p.Good xs → p.Rel Items Anything (snapshots_of (left_scope p) xs) (snapshots_of (right_scope p) xs)
   snapping_all p no_answers good = Steps.given p Items Anything no_parts tt
   snapping_all p (answer x xs) good =
       p.thens Value Items Anything Anything _ _ _ _ (snapping p x good.0)

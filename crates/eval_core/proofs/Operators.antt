@@ -7,7 +7,7 @@ use Rattle.pointer_core.specs.declared.refusal.Rule.{Rule}
 use Rattle.expr_syntax.specs.declared.op.Op.{Op}
 use Rattle.expr_syntax.specs.declared.op.Op.TheVariants.{Eq, Item, Has, Size}
 use Rattle.plain_ops.specs.Applied.{applied, index_in}
-use Rattle.eval_core.specs.Answer.{Answer, Answers, plain, node, several, no_answers, answer, answer_at}
+use Rattle.eval_core.specs.Answer.{Answer, AnswerList, plain, node, several, no_answers, answer, answer_at}
 use Rattle.eval_core.specs.Operating.{as_plain, on_plain, one_of, answer_under, or_index, operated_on, in_bounds}
 use Rattle.eval_core.specs.Scope
 use Rattle.eval_core.specs.Reading.{operate}
@@ -28,16 +28,16 @@ on_plain-good Good op (plain v) (several xs) = tt
 on_plain-good Good op (node n) y = tt
 on_plain-good Good op (several xs) y = tt
 
-or_index-good : (Good : NodeNo → Type 0) (n : ℕ) (xs : Answers) → InAnswers Good xs → IfOk (or_index (answer_at n xs)) (InAnswer Good)
+or_index-good : (Good : NodeNo → Type 0) (n : ℕ) (xs : AnswerList) → InAnswers Good xs → IfOk (or_index (answer_at n xs)) (InAnswer Good)
 or_index-good Good n no_answers good = tt
 or_index-good Good zero (answer x xs) good = good.0
 or_index-good Good (suc n) (answer x xs) good = or_index-good Good n xs good.1
 
-under-good : (Good : NodeNo → Type 0) (xs : Answers) (i : Option ℕ) → InAnswers Good xs → IfOk (answer_under xs i) (InAnswer Good)
+under-good : (Good : NodeNo → Type 0) (xs : AnswerList) (i : Option ℕ) → InAnswers Good xs → IfOk (answer_under xs i) (InAnswer Good)
 under-good Good xs (Some n) good = or_index-good Good n xs good
 under-good Good xs None good = tt
 
-one_of-good : (Good : NodeNo → Type 0) (xs : Answers) (k : Answer) → InAnswers Good xs → IfOk (one_of xs k) (InAnswer Good)
+one_of-good : (Good : NodeNo → Type 0) (xs : AnswerList) (k : Answer) → InAnswers Good xs → IfOk (one_of xs k) (InAnswer Good)
 one_of-good Good xs (plain (integer z)) good = under-good Good xs (index_in z) good
 one_of-good Good xs _ good = tt
 
@@ -47,7 +47,7 @@ operated-good Good Item (several xs) k good = one_of-good Good xs k good
 operated-good Good Size (several xs) y good = tt
 operated-good Good op x y good = on_plain-good Good op x y
 
-pub operating : (p : Pairing) (op : Op) (x y : Answer) → InAnswer p.Good x → Steps.Answers p (operate (left_scope p) op x y) (operate (right_scope p) op x y)
+pub operating : (p : Pairing) (op : Op) (x y : Answer) → InAnswer p.Good x → Steps.ArePaired p (operate (left_scope p) op x y) (operate (right_scope p) op x y)
 operating p Item (node n) k good = of_node p n _ _ good (λ kind. item_kind p n k kind good)
 operating p Has (node n) k good = of_node p n _ _ good (λ kind. has_kind p n k kind good)
 operating p Size (node n) y good = of_node p n _ _ good (λ kind. size_kind p n kind good)
@@ -62,5 +62,5 @@ bounds-good Good x good = by_test (is_bounded_answer x)
     by_test false = tt
 
 pub bounding : (p : Pairing) (x : Answer) → InAnswer p.Good x
-    → Steps.Answers p (Scope.judged (left_scope p) (in_bounds x)) (Scope.judged (right_scope p) (in_bounds x))
+    → Steps.ArePaired p (Scope.judged (left_scope p) (in_bounds x)) (Scope.judged (right_scope p) (in_bounds x))
 bounding p x good = judging p Answer (InAnswer p.Good) (in_bounds x) (bounds-good p.Good x good)

@@ -13,8 +13,8 @@ use Rattle.eval_core.specs.Reading.{of_kind}
 use Rattle.eval_core.specs.Pairing.{Pairing, left_scope, right_scope, InAnswer}
 
 -- two evaluations of an answer are related, and the nodes in it are good
-abbrev pub Answers : (p : Pairing) → Eval Answer → Eval Answer → Type 0
-Answers p e f = p.Rel Answer (InAnswer p.Good) e f
+abbrev pub ArePaired : (p : Pairing) → Eval Answer → Eval Answer → Type 0
+ArePaired p e f = p.Rel Answer (InAnswer p.Good) e f
 
 pub given : (p : Pairing) (A : Type 0) (P : A → Type 0) (x : A) → P x → p.Rel A P (gives x) (gives x)
 given p A P x h = p.lifts A P (Ok x) h
@@ -34,7 +34,7 @@ choosing p A P false e f then_e then_f h k = k
 
 -- one evaluation and then another, of answers
 pub going_on : (p : Pairing) (e f : Eval Answer) (next then_next : Answer → Eval Answer)
-    → Answers p e f → ((x : Answer) → InAnswer p.Good x → Answers p (next x) (then_next x)) → Answers p (andthen e next) (andthen f then_next)
+    → ArePaired p e f → ((x : Answer) → InAnswer p.Good x → ArePaired p (next x) (then_next x)) → ArePaired p (andthen e next) (andthen f then_next)
 going_on p e f next then_next h k = p.thens Answer Answer (InAnswer p.Good) (InAnswer p.Good) e f next then_next h k
 
 by_being : (p : Pairing) (A : Type 0) (P : A → Type 0) (being : Option Being) (u v : Kind → Eval A)

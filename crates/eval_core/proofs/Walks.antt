@@ -8,7 +8,7 @@ use Rattle.edit_core.specs.declared.kind.Kind.{Kind}
 use Rattle.edit_core.specs.declared.kind.Kind.TheVariants.{Model, Array, Map}
 use Rattle.expr_syntax.specs.Syntax.{Walk, filter, collect, all, any, sum}
 use Rattle.eval_core.specs.declared.site.Site.{Site}
-use Rattle.eval_core.specs.Answer.{Answer, Answers, plain, node, several, no_answers, answer, answers_in, with_last}
+use Rattle.eval_core.specs.Answer.{Answer, AnswerList, plain, node, several, no_answers, answer, answers_in, with_last}
 use Rattle.eval_core.specs.Sight.{Entry}
 use Rattle.eval_core.specs.Run.{Eval}
 use Rattle.eval_core.specs.Scope.{refused}
@@ -31,7 +31,7 @@ abbrev InTurn : (NodeNo → Type 0) → Turn → Type 0
 InTurn Good (on x) = InAnswer Good x
 InTurn Good (stop x) = InAnswer Good x
 
-reading : (p : Pairing) (i : Item) → InItem p.Good i → Steps.Answers p (read_item (left_scope p) i) (read_item (right_scope p) i)
+reading : (p : Pairing) (i : Item) → InItem p.Good i → Steps.ArePaired p (read_item (left_scope p) i) (read_item (right_scope p) i)
 reading p (given x) good = Steps.given p Answer (InAnswer p.Good) x good
 reading p (standing n e) good = held p (Site.Entry n e.token) e.held good
 
@@ -39,7 +39,7 @@ standing-good : (Good : NodeNo → Type 0) (n : NodeNo) (es : List Entry) → In
 standing-good Good n [] good = tt
 standing-good Good n (e ∷ es) good = (good.0, standing-good Good n es good.1)
 
-given-good : (Good : NodeNo → Type 0) (xs : Answers) → InAnswers Good xs → InItems Good (map given (answers_in xs))
+given-good : (Good : NodeNo → Type 0) (xs : AnswerList) → InAnswers Good xs → InItems Good (map given (answers_in xs))
 given-good Good no_answers good = tt
 given-good Good (answer x xs) good = (good.0, given-good Good xs good.1)
 
@@ -67,11 +67,11 @@ walking p (several xs) good = Steps.given p (List Item) (InItems p.Good) _ (give
 walking p (plain (list a ps)) good = Steps.given p (List Item) (InItems p.Good) (plain_items ps) (plain-good p.Good ps)
 walking p _ good = not_walked p
 
-last-good : (Good : NodeNo → Type 0) (xs : Answers) (y : Answer) → InAnswers Good xs → InAnswer Good y → InAnswers Good (with_last xs y)
+last-good : (Good : NodeNo → Type 0) (xs : AnswerList) (y : Answer) → InAnswers Good xs → InAnswer Good y → InAnswers Good (with_last xs y)
 last-good Good no_answers y good last = (last, tt)
 last-good Good (answer x xs) y good last = (good.0, last-good Good xs y good.1 last)
 
-filtered-good : (Good : NodeNo → Type 0) (b : Bool) (xs : Answers) (x : Answer) → InAnswers Good xs → InAnswer Good x → InAnswers Good (if b then with_last xs x else xs)
+filtered-good : (Good : NodeNo → Type 0) (b : Bool) (xs : AnswerList) (x : Answer) → InAnswers Good xs → InAnswer Good x → InAnswers Good (if b then with_last xs x else xs)
 filtered-good Good true xs x good item = last-good Good xs x good item
 filtered-good Good false xs x good item = good
 
@@ -92,14 +92,14 @@ gathered-good Good any so_far x (plain (boolean b)) good item result = any-good 
 gathered-good Good sum (plain (integer y)) x (plain (integer z)) good item result = tt
 gathered-good Good w so_far x y good item result = tt
 
-turning : (p : Pairing) (u v : Answer → Eval Answer) (t : Turn) → InTurn p.Good t → ((x : Answer) → InAnswer p.Good x → Steps.Answers p (u x) (v x))
-    → Steps.Answers p (turned u t) (turned v t)
+turning : (p : Pairing) (u v : Answer → Eval Answer) (t : Turn) → InTurn p.Good t → ((x : Answer) → InAnswer p.Good x → Steps.ArePaired p (u x) (v x))
+    → Steps.ArePaired p (turned u t) (turned v t)
 turning p u v (on x) good h = h x good
 turning p u v (stop x) good h = Steps.given p Answer (InAnswer p.Good) x good
 
 pub walking_over : (p : Pairing) (w : Walk) (u v : Answer → Eval Answer) (is : List Item) (so_far : Answer)
-    → ((x : Answer) → InAnswer p.Good x → Steps.Answers p (u x) (v x)) → InItems p.Good is → InAnswer p.Good so_far
-    → Steps.Answers p (walk_over (left_scope p) w u is so_far) (walk_over (right_scope p) w v is so_far)
+    → ((x : Answer) → InAnswer p.Good x → Steps.ArePaired p (u x) (v x)) → InItems p.Good is → InAnswer p.Good so_far
+    → Steps.ArePaired p (walk_over (left_scope p) w u is so_far) (walk_over (right_scope p) w v is so_far)
 walking_over p w u v [] so_far body good gathered_good = Steps.given p Answer (InAnswer p.Good) so_far gathered_good
 walking_over p w u v (i ∷ is) so_far body good gathered_good =
     going_on p _ _ _ _ (reading p i good.0) (λ x item.

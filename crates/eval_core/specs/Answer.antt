@@ -9,26 +9,26 @@ mutual
   pub data Answer : Type 0 where
     plain : Value → Answer
     node : NodeNo → Answer
-    several : Answers → Answer
+    several : AnswerList → Answer
 
-  pub data Answers : Type 0 where
-    no_answers : Answers
-    answer : Answer → Answers → Answers
+  pub data AnswerList : Type 0 where
+    no_answers : AnswerList
+    answer : Answer → AnswerList → AnswerList
 
-abbrev pub answers_in : Answers → List Answer
+abbrev pub answers_in : AnswerList → List Answer
 answers_in no_answers = []
 answers_in (answer x xs) = x ∷ answers_in xs
 
 -- the answers with one more at the end
-abbrev pub with_last : Answers → Answer → Answers
+abbrev pub with_last : AnswerList → Answer → AnswerList
 with_last no_answers y = answer y no_answers
 with_last (answer x xs) y = answer x (with_last xs y)
 
-abbrev pub how_many : Answers → ℕ
+abbrev pub how_many : AnswerList → ℕ
 how_many no_answers = 0
 how_many (answer x xs) = suc (how_many xs)
 
-abbrev pub answer_at : ℕ → Answers → Option Answer
+abbrev pub answer_at : ℕ → AnswerList → Option Answer
 answer_at n no_answers = None
 answer_at zero (answer x xs) = Some x
 answer_at (suc n) (answer x xs) = answer_at n xs
@@ -40,7 +40,7 @@ abbrev mutual
   answer_weight (node n) = 1
   answer_weight (several xs) = 1 + answers_weight xs
 
-  pub answers_weight : Answers → ℕ
+  pub answers_weight : AnswerList → ℕ
   answers_weight no_answers = 0
   answers_weight (answer x xs) = answer_weight x + answers_weight xs
 
@@ -51,7 +51,7 @@ abbrev mutual
   answer_depth (node n) = 1
   answer_depth (several xs) = 2 + answers_depth xs
 
-  pub answers_depth : Answers → ℕ
+  pub answers_depth : AnswerList → ℕ
   answers_depth no_answers = 0
   answers_depth (answer x xs) = max (answer_depth x) (answers_depth xs)
 
@@ -68,7 +68,7 @@ abbrev mutual
   equals_value (several xs) (list a ps) = equal_items xs ps
   equals_value _ w = false
 
-  pub equal_items : Answers → Items → Bool
+  pub equal_items : AnswerList → Items → Bool
   equal_items no_answers no_parts = true
   equal_items (answer x xs) (part v ps) = equals_value x v && equal_items xs ps
   equal_items _ _ = false
@@ -82,7 +82,7 @@ abbrev mutual
   same_answer (several xs) (several ys) = same_answers xs ys
   same_answer _ _ = false
 
-  pub same_answers : Answers → Answers → Bool
+  pub same_answers : AnswerList → AnswerList → Bool
   same_answers no_answers no_answers = true
   same_answers (answer x xs) (answer y ys) = same_answer x y && same_answers xs ys
   same_answers _ _ = false

@@ -3,7 +3,7 @@ use Rattle.std.specs.Prelude.{List, [], ◌∷◌, Bool, false, true, codes, Opt
 use Rattle.snap_core.specs.Value.{null, boolean}
 use Rattle.pointer_core.specs.declared.refusal.Rule.{Rule}
 use Rattle.expr_syntax.specs.Syntax.{Expression, Expressions, Members, Telling, collect, keys, items, snapshot, path, constant, variable, own, get, ref, one_sided, two_sided, telling, walk, both, either, choice, bind, list, make, find, is, no_more, more, no_members, member}
-use Rattle.eval_core.specs.Answer.{Answer, Answers, plain, several, no_answers, answer}
+use Rattle.eval_core.specs.Answer.{Answer, AnswerList, plain, several, no_answers, answer}
 use Rattle.eval_core.specs.Run.{Eval, counts, andthen}
 use Rattle.eval_core.specs.Scope.{Scope, Env, bound_in, gives, refused, judged}
 use Rattle.eval_core.specs.Operating.{in_bounds, truth_in}
@@ -56,7 +56,7 @@ abbrev mutual
   evaluated s (find m e) env = counted s (andthen (evaluated s e env) (find_got s m))
   evaluated s (is e m) env = counted s (andthen (evaluated s e env) (is_got s m))
 
-  pub all_evaluated : Scope → Expressions → Env → Eval Answers
+  pub all_evaluated : Scope → Expressions → Env → Eval AnswerList
   all_evaluated s no_more env = gives no_answers
   all_evaluated s (more e es) env = andthen (evaluated s e env) (λ x. andthen (all_evaluated s es env) (λ xs. gives (answer x xs)))
 

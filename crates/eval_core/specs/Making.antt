@@ -4,7 +4,7 @@ use Rattle.snap_core.specs.Value.{Value, list, dict, Items, Fields, no_parts, pa
 use Rattle.snap_core.specs.Level.{set_field, insert_field}
 use Rattle.pointer_core.specs.declared.refusal.Rule.{Rule}
 use Rattle.eval_core.specs.declared.cell.Cell.{Cell}
-use Rattle.eval_core.specs.Answer.{Answer, Answers, plain, node, several, no_answers, answer}
+use Rattle.eval_core.specs.Answer.{Answer, AnswerList, plain, node, several, no_answers, answer}
 use Rattle.eval_core.specs.Sight.{Sight, Being}
 use Rattle.eval_core.specs.Run.{Eval, looks, andthen}
 use Rattle.eval_core.specs.Scope.{Scope, gives}
@@ -36,7 +36,7 @@ abbrev mutual
   made_value sight (node n) = node_made (sight.being n)
   made_value sight (several xs) = list_made (made_values sight xs)
 
-  pub made_values : Sight → Answers → Result Items Rule
+  pub made_values : Sight → AnswerList → Result Items Rule
   made_values sight no_answers = Ok no_parts
   made_values sight (answer x xs) = part_made (made_value sight x) (made_values sight xs)
 
@@ -71,6 +71,6 @@ abbrev mutual
   snapshot_of s (node n) = of_kind s (s.sight.being n) (λ kind. looks (Cell.Whole n) (s.sight.whole n))
   snapshot_of s (several xs) = andthen (snapshots_of s xs) (λ ps. gives (list tt ps))
 
-  pub snapshots_of : Scope → Answers → Eval Items
+  pub snapshots_of : Scope → AnswerList → Eval Items
   snapshots_of s no_answers = gives no_parts
   snapshots_of s (answer x xs) = andthen (snapshot_of s x) (λ v. andthen (snapshots_of s xs) (λ ps. gives (part v ps)))

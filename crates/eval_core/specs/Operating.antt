@@ -5,7 +5,7 @@ use Rattle.pointer_core.specs.declared.refusal.Rule.{Rule}
 use Rattle.expr_syntax.specs.declared.op.Op.{Op}
 use Rattle.expr_syntax.specs.declared.op.Op.TheVariants.{Eq, Item, Size}
 use Rattle.plain_ops.specs.Applied.{applied, index_in}
-use Rattle.eval_core.specs.Answer.{Answer, Answers, plain, several, how_many, answer_at, same_answer, is_bounded_answer}
+use Rattle.eval_core.specs.Answer.{Answer, AnswerList, plain, several, how_many, answer_at, same_answer, is_bounded_answer}
 
 abbrev pub Judged : Type 0
 Judged = Result Answer Rule
@@ -23,12 +23,12 @@ abbrev pub or_index : Option Answer → Judged
 or_index (Some x) = Ok x
 or_index None = Err Rule.Index
 
-abbrev pub answer_under : Answers → Option ℕ → Judged
+abbrev pub answer_under : AnswerList → Option ℕ → Judged
 answer_under xs (Some n) = or_index (answer_at n xs)
 answer_under xs None = Err Rule.Index
 
 -- one of several answers, at an integer
-abbrev pub one_of : Answers → Answer → Judged
+abbrev pub one_of : AnswerList → Answer → Judged
 one_of xs (plain (integer z)) = answer_under xs (index_in z)
 one_of xs k = Err Rule.Kind
 

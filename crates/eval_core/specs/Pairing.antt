@@ -9,7 +9,7 @@ use Rattle.pointer_core.specs.Path.{Path}
 use Rattle.expr_syntax.specs.declared.number.ViewNo.{ViewNo}
 use Rattle.eval_core.specs.declared.cell.Cell.{Cell}
 use Rattle.eval_core.specs.declared.site.Site.{Site}
-use Rattle.eval_core.specs.Answer.{Answer, Answers, plain, node, several, no_answers, answer}
+use Rattle.eval_core.specs.Answer.{Answer, AnswerList, plain, node, several, no_answers, answer}
 use Rattle.eval_core.specs.Sight.{Sight, Held, holds, stands, refers, Entry}
 use Rattle.eval_core.specs.Run.{Eval, Fault, lift, looks, counts, andthen}
 use Rattle.eval_core.specs.Scope.{Scope, Viewing, Env}
@@ -21,7 +21,7 @@ abbrev mutual
   InAnswer Good (node n) = Good n
   InAnswer Good (several xs) = InAnswers Good xs
 
-  pub InAnswers : (NodeNo → Type 0) → Answers → Type 0
+  pub InAnswers : (NodeNo → Type 0) → AnswerList → Type 0
   InAnswers Good no_answers = Unit {0}
   InAnswers Good (answer x xs) = InAnswer Good x × InAnswers Good xs
 

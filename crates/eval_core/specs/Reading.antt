@@ -14,7 +14,7 @@ use Rattle.expr_syntax.specs.declared.op.Op.TheVariants.{Item, Has, Size}
 use Rattle.plain_ops.specs.Applied.{index_in}
 use Rattle.eval_core.specs.declared.cell.Cell.{Cell}
 use Rattle.eval_core.specs.declared.site.Site.{Site}
-use Rattle.eval_core.specs.Answer.{Answer, Answers, plain, node, several, no_answers, answer}
+use Rattle.eval_core.specs.Answer.{Answer, AnswerList, plain, node, several, no_answers, answer}
 use Rattle.eval_core.specs.Sight.{Being, Link, Held, holds, stands, refers, Entry}
 use Rattle.eval_core.specs.Run.{Eval, looks, andthen}
 use Rattle.eval_core.specs.Scope.{Member, property, view, Scope, gives, refused, refused_at, judged}
@@ -133,7 +133,7 @@ operate s Has (node n) k = of_kind s (s.sight.being n) (has_of_kind s n k)
 operate s Size (node n) y = of_kind s (s.sight.being n) (size_of_kind s n)
 operate s op x y = judged s (operated_on op x y)
 
-abbrev pub texts : List (List ℕ) → Answers
+abbrev pub texts : List (List ℕ) → AnswerList
 texts [] = no_answers
 texts (t ∷ ts) = answer (plain (text t)) (texts ts)
 

@@ -7,7 +7,7 @@ use Rattle.snap_core.specs.declared.ident.Ident.{Ident}
 use Rattle.snap_core.proofs.PlainLevels.{ArePlainMembers-set_field, ArePlainMembers-insert_field}
 use Rattle.pointer_core.specs.declared.refusal.Rule.{Rule}
 use Rattle.eval_core.specs.declared.cell.Cell.{Cell}
-use Rattle.eval_core.specs.Answer.{Answer, Answers, plain, node, several, no_answers, answer}
+use Rattle.eval_core.specs.Answer.{Answer, AnswerList, plain, node, several, no_answers, answer}
 use Rattle.eval_core.specs.Sight.{Sight, Being}
 use Rattle.eval_core.specs.Scope.{Scope}
 use Rattle.eval_core.specs.Reading.{ident_value}
@@ -44,7 +44,7 @@ mutual
   made-plain sight h (node n) fine = node-plain (sight.being n) (h.identifiers n)
   made-plain sight h (several xs) fine = list-plain (made_values sight xs) (all_made-plain sight h xs fine)
 
-  all_made-plain : (sight : Sight) → IsPlainSight sight → (xs : Answers) → ArePlainAnswers xs → IfOk (made_values sight xs) ArePlain
+  all_made-plain : (sight : Sight) → IsPlainSight sight → (xs : AnswerList) → ArePlainAnswers xs → IfOk (made_values sight xs) ArePlain
   all_made-plain sight h no_answers fine = tt
   all_made-plain sight h (answer x xs) fine =
       part-plain (made_value sight x) (made_values sight xs) (made-plain sight h x fine.0) (all_made-plain sight h xs fine.1)
@@ -82,7 +82,7 @@ mutual
   snapping s h (node n) fine = by_kind IsPlain s (s.sight.being n) _ (λ kind. looking IsPlain (Cell.Whole n) (s.sight.whole n) (h.seen.wholes n))
   snapping s h (several xs) fine = going_on ArePlain IsPlain _ _ (snapping_all s h xs fine) (λ ps all. given IsPlain (list tt ps) all)
 
-  snapping_all : (s : Scope) → IsPlainScope s → (xs : Answers) → ArePlainAnswers xs → Gives ArePlain (snapshots_of s xs)
+  snapping_all : (s : Scope) → IsPlainScope s → (xs : AnswerList) → ArePlainAnswers xs → Gives ArePlain (snapshots_of s xs)
   snapping_all s h no_answers fine = given ArePlain no_parts tt
   snapping_all s h (answer x xs) fine =
       going_on IsPlain ArePlain _ _ (snapping s h x fine.0) (λ v one.

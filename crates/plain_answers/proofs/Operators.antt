@@ -10,7 +10,7 @@ use Rattle.expr_syntax.specs.declared.op.Op.{Op}
 use Rattle.expr_syntax.specs.declared.op.Op.TheVariants.{Add, Sub, Mul, Div, Mod, Concat, Text, Eq, Lt, Not, Item, Has, Size}
 use Rattle.plain_ops.specs.Outcome.{Outcome}
 use Rattle.plain_ops.specs.Applied.{on_integers, divided, joined, decimal_text, comes_before, opposite, or_rule, index_in, item_of, part_of, has_key, size_of, applied}
-use Rattle.eval_core.specs.Answer.{Answer, Answers, plain, node, several, no_answers, answer, answer_at}
+use Rattle.eval_core.specs.Answer.{Answer, AnswerList, plain, node, several, no_answers, answer, answer_at}
 use Rattle.eval_core.specs.Operating.{as_plain, on_plain, or_index, answer_under, one_of, operated_on}
 use Rattle.plain_answers.specs.Plainness.{IsPlainAnswer, ArePlainAnswers}
 use Rattle.plain_answers.proofs.Untested.{IsUntested, IsUntestedValue, plain-untested, untested-ok}
@@ -105,16 +105,16 @@ on_plain-untested op (plain v) (several xs) h = tt
 on_plain-untested op (node n) y h = tt
 on_plain-untested op (several xs) y h = tt
 
-at_index : (n : ℕ) (xs : Answers) → ArePlainAnswers xs → IfOk (or_index (answer_at n xs)) IsPlainAnswer
+at_index : (n : ℕ) (xs : AnswerList) → ArePlainAnswers xs → IfOk (or_index (answer_at n xs)) IsPlainAnswer
 at_index n no_answers h = tt
 at_index zero (answer x xs) h = h.0
 at_index (suc n) (answer x xs) h = at_index n xs h.1
 
-under_index : (xs : Answers) (i : Option ℕ) → ArePlainAnswers xs → IfOk (answer_under xs i) IsPlainAnswer
+under_index : (xs : AnswerList) (i : Option ℕ) → ArePlainAnswers xs → IfOk (answer_under xs i) IsPlainAnswer
 under_index xs (Some n) h = at_index n xs h
 under_index xs None h = tt
 
-one : (xs : Answers) (k : Answer) → ArePlainAnswers xs → IfOk (one_of xs k) IsPlainAnswer
+one : (xs : AnswerList) (k : Answer) → ArePlainAnswers xs → IfOk (one_of xs k) IsPlainAnswer
 one xs (plain (integer z)) h = under_index xs (index_in z) h
 one xs _ h = tt
 

@@ -8,7 +8,7 @@ use Rattle.edit_core.specs.declared.kind.Kind.{Kind}
 use Rattle.edit_core.specs.declared.kind.Kind.TheVariants.{Model, Array, Map}
 use Rattle.expr_syntax.specs.Syntax.{Walk, filter, collect, all, any, sum}
 use Rattle.eval_core.specs.declared.site.Site.{Site}
-use Rattle.eval_core.specs.Answer.{Answer, Answers, plain, node, several, no_answers, answer, answers_in, with_last}
+use Rattle.eval_core.specs.Answer.{Answer, AnswerList, plain, node, several, no_answers, answer, answers_in, with_last}
 use Rattle.eval_core.specs.Sight.{Entry}
 use Rattle.eval_core.specs.Run.{Eval}
 use Rattle.eval_core.specs.Scope.{Scope}
@@ -40,7 +40,7 @@ standing-plain : (n : NodeNo) (es : List Entry) → IsPlainLevel es → ArePlain
 standing-plain n [] fine = tt
 standing-plain n (e ∷ es) fine = (fine.0, standing-plain n es fine.1)
 
-given-plain : (xs : Answers) → ArePlainAnswers xs → ArePlainItems (map given (answers_in xs))
+given-plain : (xs : AnswerList) → ArePlainAnswers xs → ArePlainItems (map given (answers_in xs))
 given-plain no_answers fine = tt
 given-plain (answer x xs) fine = (fine.0, given-plain xs fine.1)
 
@@ -59,11 +59,11 @@ walking s h (several xs) fine = Giving.given ArePlainItems _ (given-plain xs fin
 walking s h (plain (list a ps)) fine = Giving.given ArePlainItems (plain_items ps) (parts-plain ps fine)
 walking s h _ fine = refusing ArePlainItems s Rule.Kind
 
-last-plain : (xs : Answers) (y : Answer) → ArePlainAnswers xs → IsPlainAnswer y → ArePlainAnswers (with_last xs y)
+last-plain : (xs : AnswerList) (y : Answer) → ArePlainAnswers xs → IsPlainAnswer y → ArePlainAnswers (with_last xs y)
 last-plain no_answers y fine last = (last, tt)
 last-plain (answer x xs) y fine last = (fine.0, last-plain xs y fine.1 last)
 
-filtered : (b : Bool) (xs : Answers) (x : Answer) → ArePlainAnswers xs → IsPlainAnswer x → ArePlainAnswers (if b then with_last xs x else xs)
+filtered : (b : Bool) (xs : AnswerList) (x : Answer) → ArePlainAnswers xs → IsPlainAnswer x → ArePlainAnswers (if b then with_last xs x else xs)
 filtered true xs x fine item = last-plain xs x fine item
 filtered false xs x fine item = fine
 

@@ -4,7 +4,7 @@ use Rattle.snap_core.specs.Value.{IsPlain}
 use Rattle.snap_core.specs.declared.number.NodeNo.{NodeNo}
 use Rattle.expr_syntax.specs.declared.number.ViewNo.{ViewNo}
 use Rattle.expr_syntax.specs.Syntax.{Expression, Expressions, Members, constant, variable, own, get, ref, one_sided, two_sided, telling, walk, both, either, choice, bind, list, make, find, is, no_more, more, no_members, member}
-use Rattle.eval_core.specs.Answer.{Answer, Answers, plain, node, several, no_answers, answer}
+use Rattle.eval_core.specs.Answer.{Answer, AnswerList, plain, node, several, no_answers, answer}
 use Rattle.eval_core.specs.Sight.{Sight, Being, Held, holds, stands, refers, Entry}
 use Rattle.eval_core.specs.Scope.{Viewing, Env}
 use Rattle.eval_core.specs.Reading.{ident_value}
@@ -16,7 +16,7 @@ abbrev mutual
   IsPlainAnswer (node n) = Unit {0}
   IsPlainAnswer (several xs) = ArePlainAnswers xs
 
-  pub ArePlainAnswers : Answers → Type 0
+  pub ArePlainAnswers : AnswerList → Type 0
   ArePlainAnswers no_answers = Unit {0}
   ArePlainAnswers (answer x xs) = IsPlainAnswer x × ArePlainAnswers xs
 

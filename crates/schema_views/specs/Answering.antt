@@ -11,7 +11,7 @@ use Rattle.type_core.specs.Made.{refused_as}
 use Rattle.model_syntax.specs.Shown.{ShownView}
 use Rattle.edit_core.specs.Labelled.{Labelled}
 use Rattle.tree_core.specs.Reading.{path_to}
-use Rattle.eval_core.specs.Answer.{Answer, Answers, plain, node, several, no_answers, answer}
+use Rattle.eval_core.specs.Answer.{Answer, AnswerList, plain, node, several, no_answers, answer}
 use Rattle.eval_core.specs.Asking.{Asked, view_run}
 use Rattle.eval_core.specs.Run.{Run, Fault}
 use Rattle.eval_core.specs.Sight.{Sight}
@@ -32,7 +32,7 @@ abbrev mutual
   answer_value path (node n) = only (codes "node") (text (printed (path n)))
   answer_value path (several xs) = only (codes "several") (list tt (answer_values path xs))
 
-  pub answer_values : (NodeNo → Path) → Answers → Items
+  pub answer_values : (NodeNo → Path) → AnswerList → Items
   answer_values path no_answers = no_parts
   answer_values path (answer x xs) = part (answer_value path x) (answer_values path xs)
 

@@ -29,6 +29,7 @@ mod writing;
 pub use changed::{Changed, part_added, part_removed, placed, placed_at};
 pub use error::{TreeError, refuse};
 pub use parts::{entries_of, entry_at, items_of, part_type, turn_to};
+pub use paths::{joined, path_of_place};
 pub use place::{Change, Place};
 pub use reconciling::{New, label_new};
 pub use write::{Target, Tree, judge, key_of, may_write, number_new, write_place, write_tree};

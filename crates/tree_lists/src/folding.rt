@@ -11,14 +11,14 @@ ghost use Rattle.tree_core.specs.Write.{write_of};
 ghost use Rattle.tree_core.specs.Written.{changed, tree};
 ghost use Rattle.tree_lists.specs.Folding.{one_written, and_then, rest_written};
 
-use crate::naming::{place_in, refused};
+use crate::naming::place_in;
 use list_core::Parts;
 use node_core::Labelled;
 use patch_core::{Patch, PatchOp};
 use pointer_core::{Pointer, Rule};
 use snap_core::{NodeNo, Snap};
 use std::alloc::{AllocError, Global};
-use tree_core::{Change, Changed, Target, Tree, TreeError, write_place};
+use tree_core::{Change, Changed, Target, Tree, TreeError, refuse, write_place};
 use type_core::Types;
 
 /// What patches make of a tree, each a write on the root's behalf, or the first rule that one of them doesn't meet; the
@@ -105,7 +105,7 @@ fn write_patch(
 {
     let made = write_named(alloc, types, patch, whole)?;
     if made.value.depth(65) > 64 {
-        return Err(refused(Pointer::new(alloc), Rule::Large));
+        return Err(refuse(Pointer::new(alloc), Rule::Large));
     }
     Ok(made)
 }

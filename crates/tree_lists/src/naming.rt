@@ -9,9 +9,9 @@ ghost use Rattle.tree_lists.specs.Naming.{place_by};
 
 use node_core::{Label, Labelled};
 use patch_core::{Patch, PatchOp};
-use pointer_core::{Pointer, Refusal, Rule, Token};
+use pointer_core::{Pointer, Rule};
 use std::alloc::Global;
-use tree_core::{Place, TreeError};
+use tree_core::{Place, TreeError, refuse};
 use tree_reading::{entry_place, index_below, way_along};
 
 /// The place that a patch names.
@@ -19,7 +19,7 @@ pub fn place_in(alloc: Global, patch: &Patch, root: &Labelled) -> Result<Place, 
     ensures { Answers (λ place. place) result (specs.place_in patch.now (labelled root.now)) }
 {
     match patch.path.tokens() {
-        [] => Err(refused(patch.path.clone_in()?, Rule::Path)),
+        [] => Err(refuse(patch.path.clone_in()?, Rule::Path)),
         [holder @ .., token] => place_by(alloc, patch, root, holder, token),
     }
 }
@@ -35,11 +35,11 @@ fn place_by(
     ensures { Answers (λ place. place) result (place_by patch.now (record { holder = holder.now; token = token.now }) (labelled root.now)) }
 {
     let Some(way) = way_along(alloc, root, holder)? else {
-        return Err(refused(patch.path.clone_in()?, Rule::Path));
+        return Err(refuse(patch.path.clone_in()?, Rule::Path));
     };
     match root.part_at(way.as_slice()) {
         Some(from) => place_of(patch, token, from),
-        None => Err(refused(patch.path.clone_in()?, Rule::Path)),
+        None => Err(refuse(patch.path.clone_in()?, Rule::Path)),
     }
 }
 
@@ -47,7 +47,7 @@ fn place_of(patch: &Patch, token: &Token, from: &Labelled) -> Result<Place, Tree
     ensures { Answers (λ place. place) result (specs.place_of patch.now token.now (labelled from.now)) }
 {
     match from {
-        Labelled::Leaf(_) => Err(refused(patch.path.clone_in()?, Rule::Path)),
+        Labelled::Leaf(_) => Err(refuse(patch.path.clone_in()?, Rule::Path)),
         Labelled::Array(own, items) => item_place(patch, *own, token.text(), items.len()),
         Labelled::Record(own, _) => Ok(entry_place(*own, token)?),
     }
@@ -62,7 +62,7 @@ fn item_place(patch: &Patch, own: Label, token: &str, len: usize) -> Result<Plac
             Ok(at) => Ok(Place::Item(own.number, at)),
             Err(_) => Err(TreeError::Memory),
         },
-        None => Err(refused(patch.path.clone_in()?, Rule::Index)),
+        None => Err(refuse(patch.path.clone_in()?, Rule::Index)),
     }
 }
 
@@ -87,11 +87,4 @@ fn new_index(token: &str, len: usize) -> Option<usize>
     }
     let at = Pointer::index_of(token)? as usize;
     if at <= len { Some(at) } else { None }
-}
-
-/// A refusal by a rule at a place.
-pub fn refused(path: Pointer, rule: Rule) -> TreeError
-    ensures { result ≡ TreeError.Refused (record { path = path; rule = rule }) }
-{
-    TreeError::Refused(Refusal { path, rule })
 }

@@ -19,10 +19,10 @@ use crate::pointers::{path_to, way_along};
 use crate::typing::{referred_by, type_at};
 use edit_core::Kind;
 use node_core::{Label, Labelled};
-use pointer_core::{Pointer, Refusal, Rule, Token};
+use pointer_core::{Pointer, Rule, Token};
 use snap_core::{Ident, ModelNo, NodeNo, Snap};
 use std::alloc::{AllocError, Global};
-use tree_core::{Place, TreeError};
+use tree_core::{Place, TreeError, refuse};
 use type_core::Types;
 
 /// The value at a pointer; refused `path` where it is no place. Frozen values and references aren't entered.
@@ -30,10 +30,10 @@ pub fn show(alloc: Global, root: &Labelled, path: &Pointer) -> Result<Snap, Tree
     ensures { Answers view result (asking.shown path.now (labelled root.now)) }
 {
     let Some(way) = way_along(alloc, root, path.tokens())? else {
-        return Err(refused(path.clone_in()?, Rule::Path));
+        return Err(refuse(path.clone_in()?, Rule::Path));
     };
     let Some(part) = root.part_at(way.as_slice()) else {
-        return Err(refused(path.clone_in()?, Rule::Path));
+        return Err(refuse(path.clone_in()?, Rule::Path));
     };
     Ok(part.snapshot(alloc)?)
 }
@@ -44,7 +44,7 @@ pub fn show_node(alloc: Global, root: &Labelled, n: NodeNo) -> Result<Snap, Tree
 {
     match node_of(root, n) {
         Some(node) => Ok(node.snapshot(alloc)?),
-        None => Err(refused(Pointer::new(alloc), Rule::Dead)),
+        None => Err(refuse(Pointer::new(alloc), Rule::Dead)),
     }
 }
 
@@ -54,15 +54,8 @@ pub fn path_of(alloc: Global, root: &Labelled, n: NodeNo) -> Result<Pointer, Tre
 {
     match path_to(alloc, root, n)? {
         Some(path) => Ok(path),
-        None => Err(refused(Pointer::new(alloc), Rule::Dead)),
+        None => Err(refuse(Pointer::new(alloc), Rule::Dead)),
     }
-}
-
-/// A refusal by a rule at a place.
-fn refused(path: Pointer, rule: Rule) -> TreeError
-    ensures { result ≡ TreeError.Refused (record { path = path; rule = rule }) }
-{
-    TreeError::Refused(Refusal { path, rule })
 }
 
 /// The place that a pointer names: the root as a whole, or a place in the node that holds it; refused `path` where it
@@ -72,7 +65,7 @@ pub fn place_at(alloc: Global, root: &Labelled, path: &Pointer) -> Result<Place,
 {
     match place_along(alloc, root, path.tokens())? {
         Some(place) => Ok(place),
-        None => Err(refused(path.clone_in()?, Rule::Path)),
+        None => Err(refuse(path.clone_in()?, Rule::Path)),
     }
 }
 
@@ -159,13 +152,13 @@ pub fn follow(
     ensures { Answers (λ target. target) result (asking.led_from types.now path.now (labelled root.now)) }
 {
     let Some(way) = way_along(alloc, root, path.tokens())? else {
-        return Err(refused(path.clone_in()?, Rule::Path));
+        return Err(refuse(path.clone_in()?, Rule::Path));
     };
     let Some(part) = root.part_at(way.as_slice()) else {
-        return Err(refused(path.clone_in()?, Rule::Path));
+        return Err(refuse(path.clone_in()?, Rule::Path));
     };
     let Some(m) = referred_by(types, type_at(types, root, way.as_slice())) else {
-        return Err(refused(path.clone_in()?, Rule::Kind));
+        return Err(refuse(path.clone_in()?, Rule::Kind));
     };
     let identifier = identifier_of(part)?;
     follow_to(alloc, root, types, path, m, identifier)
@@ -187,10 +180,10 @@ fn follow_to(
         return Ok(None);
     };
     let Some(n) = resolved(root, types, m, &identifier) else {
-        return Err(refused(path.clone_in()?, Rule::Reference));
+        return Err(refuse(path.clone_in()?, Rule::Reference));
     };
     match path_to(alloc, root, n)? {
         Some(target) => Ok(Some(target)),
-        None => Err(refused(path.clone_in()?, Rule::Reference)),
+        None => Err(refuse(path.clone_in()?, Rule::Reference)),
     }
 }

@@ -9,7 +9,7 @@ use Rattle.expr_syntax.specs.Shown.{shown, expressions, members}
 use Rattle.expr_syntax.specs.Forms.{entry_shown, entry-parts}
 use Rattle.expr_syntax.specs.declared.expr.Expr.{Expr}
 use Rattle.expr_syntax.specs.declared.expr.Entry.{Entry}
-use Rattle.eval_core.specs.Answer.{Answer, Answers, answer, no_answers, several}
+use Rattle.eval_core.specs.Answer.{Answer, AnswerList, answer, no_answers, several}
 use Rattle.eval_core.specs.Run.{Eval, andthen, lift}
 use Rattle.eval_core.specs.Scope.{Scope, Env, gives, judged}
 use Rattle.eval_core.specs.Operating.{in_bounds}
@@ -32,11 +32,11 @@ pub element : {X : Type 0} (xs : List X) (i : ℕ) (x : X) → i < length xs →
 element xs i x within is = rw add-one (drop-cons xs i x within ∙ ap (λ y. y ∷ drop (suc i) xs) (sym is))
 
 -- answers behind those of a list
-abbrev pub appended : List Answer → Answers → Answers
+abbrev pub appended : List Answer → AnswerList → AnswerList
 appended [] xs = xs
 appended (w ∷ ws) xs = answer w (appended ws xs)
 
-pub appended-last : (ws : List Answer) (w : Answer) (xs : Answers) → appended (ws ++ w ∷ []) xs ≡ appended ws (answer w xs)
+pub appended-last : (ws : List Answer) (w : Answer) (xs : AnswerList) → appended (ws ++ w ∷ []) xs ≡ appended ws (answer w xs)
 appended-last [] w xs = refl
 appended-last (v ∷ ws) w xs = ap (answer v) (appended-last ws w xs)
 
@@ -49,8 +49,8 @@ one_more : (s : Scope) (env : Env) (e : syntax.Expression) (es : Expressions) (s
     (andthen (all_evaluated s (syntax.more e es) env) (λ xs. gives (several (appended so_far xs))) n)
     (andthen (evaluated s e env) (λ x. andthen (all_evaluated s es env) (λ xs. gives (several (appended (so_far ++ x ∷ []) xs)))) n)
 one_more s env e es so_far n =
-    let f : Answer → Eval Answers = λ x. andthen (all_evaluated s es env) (λ xs. gives (answer x xs)) in
-    let g : Answers → Eval Answer = λ xs. gives (several (appended so_far xs)) in
+    let f : Answer → Eval AnswerList = λ x. andthen (all_evaluated s es env) (λ xs. gives (answer x xs)) in
+    let g : AnswerList → Eval Answer = λ xs. gives (several (appended so_far xs)) in
     let h : Answer → Eval Answer = λ x. andthen (all_evaluated s es env) (λ xs. gives (several (appended (so_far ++ x ∷ []) xs))) in
     alike-trans _ _ _ (alike-assoc (evaluated s e env) f g n)
     (alike-then (evaluated s e env) (evaluated s e env) (λ x. andthen (f x) g) h n (alike-same (evaluated s e env n)) (λ x m.
@@ -135,11 +135,11 @@ pub list-unmet : (s : Scope) (env : Env) (es : List Expr) (i : ℕ) (e : Expr) (
     → Did {T = Value.Value} answer_of (Err halt) whole (course from.counted now.counted from.steps now.steps)
 list-unmet s env es i e so_far halt whole from middle now within is leaves did =
     let way : Course = course middle.counted now.counted middle.steps now.steps in
-    let f : Answer → Eval Answers = λ x. andthen (all_evaluated s (exprs_from (i + 1) es) env) (λ xs. gives (answer x xs)) in
-    let g : Answers → Eval Answer = λ xs. gives (several (appended so_far xs)) in
+    let f : Answer → Eval AnswerList = λ x. andthen (all_evaluated s (exprs_from (i + 1) es) env) (λ xs. gives (answer x xs)) in
+    let g : AnswerList → Eval Answer = λ xs. gives (several (appended so_far xs)) in
     list_opened s env es i e so_far whole from middle (element es i e within is) leaves (Err halt) now.counted now.steps
-    (tested-stop {T = Answers} (λ xs. xs) s halt (andthen (evaluated s (shown e) env) f) g way
-    (did-stop {T = Value.Value} {U = Answers} answer_of (λ xs. xs) halt (evaluated s (shown e) env) f way did))
+    (tested-stop {T = AnswerList} (λ xs. xs) s halt (andthen (evaluated s (shown e) env) f) g way
+    (did-stop {T = Value.Value} {U = AnswerList} answer_of (λ xs. xs) halt (evaluated s (shown e) env) f way did))
 
 appended-none : (ws : List Answer) → appended ws no_answers ≡ answers_from ws
 appended-none [] = refl
@@ -154,7 +154,7 @@ pub list-ends : (s : Scope) (env : Env) (es : List Expr) (i : ℕ) (values : Lis
 list-ends s env es i values r whole from now none leaves read =
     let n = now.counted in
     let a = now.steps in
-    let g : Answers → Eval Answer = λ xs. gives (several (appended (map answer_of values) xs)) in
+    let g : AnswerList → Eval Answer = λ xs. gives (several (appended (map answer_of values) xs)) in
     let all : answer_of (Value.Several values) ≡ several (appended (map answer_of values) no_answers) =
     answer-Several values ∙ ap several (sym (appended-none (map answer_of values))) in
     leaves r n a

@@ -3,7 +3,7 @@ use Rattle.std.proofs.Common.{◌≡◌, ℕ, zero, suc, ◌+◌, ◌*◌, ◌-�
 use Rattle.snap_core.specs.Value.{boolean}
 use Rattle.expr_syntax.specs.Syntax as syntax
 use Rattle.expr_syntax.specs.Syntax.{Expressions, Members}
-use Rattle.eval_core.specs.Answer.{Answer, Answers, answer, no_answers, several}
+use Rattle.eval_core.specs.Answer.{Answer, AnswerList, answer, no_answers, several}
 use Rattle.eval_core.specs.Run.{Eval, andthen}
 use Rattle.eval_core.specs.Scope.{Scope, Env, gives, judged}
 use Rattle.eval_core.specs.Operating.{in_bounds}

@@ -9,7 +9,7 @@ use Rattle.snap_core.proofs.Views.{entry-fields, view-Text}
 use Rattle.snap_core.specs.declared.snap.Snap
 use Rattle.snap_core.specs.declared.snap.Field.{Field}
 use Rattle.expr_syntax.specs.Syntax as syntax
-use Rattle.eval_core.specs.Answer.{Answer, Answers, plain, several, answer, no_answers, with_last}
+use Rattle.eval_core.specs.Answer.{Answer, AnswerList, plain, several, answer, no_answers, with_last}
 use Rattle.eval_core.specs.Run.{Eval, Run, Fault, lift, andthen, joined, ended, continued}
 use Rattle.eval_core.specs.Scope.{Scope, gives, judged}
 use Rattle.eval_core.specs.Making.{snapshot_of, snapshots_of}
@@ -33,10 +33,10 @@ abbrev pub ReadsAll : {T A : Type 0} → (T → A) → Eval A → Eval A → Typ
 ReadsAll {T} seen left whole = (r : Result T Halt) → Read seen r left → Read seen r whole
 
 -- snapshots so far, and those that are left
-abbrev pub snapshots_left : Scope → Answers → Items → Eval Items
+abbrev pub snapshots_left : Scope → AnswerList → Items → Eval Items
 snapshots_left s xs so_far = andthen (snapshots_of s xs) (λ ps. gives (glued so_far ps))
 
-one_snapshot : (s : Scope) (x : Answer) (xs : Answers) (so_far : Items) (n : ℕ)
+one_snapshot : (s : Scope) (x : Answer) (xs : AnswerList) (so_far : Items) (n : ℕ)
     → Alike (snapshots_left s (answer x xs) so_far n) (andthen (snapshot_of s x) (λ v. andthen (snapshots_of s xs) (λ ps. gives (glued so_far (part v ps)))) n)
 one_snapshot s x xs so_far n =
     let f : plains.Value → Eval Items = λ v. andthen (snapshots_of s xs) (λ ps. gives (part v ps)) in

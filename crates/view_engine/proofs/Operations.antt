@@ -4,7 +4,7 @@ use Rattle.snap_core.specs.Value as plains
 use Rattle.snap_core.specs.declared.number.NodeNo.{NodeNo}
 use Rattle.expr_syntax.specs.declared.op.Op.{Op}
 use Rattle.expr_syntax.specs.declared.op.Op.TheVariants as ops
-use Rattle.eval_core.specs.Answer.{Answer, Answers, plain, node, several}
+use Rattle.eval_core.specs.Answer.{Answer, AnswerList, plain, node, several}
 use Rattle.eval_core.specs.Operating.{Judged, bounded_outcome, operated_on, in_bounds}
 use Rattle.eval_core.specs.Reading.{operate}
 use Rattle.eval_core.specs.Run.{lift}
@@ -41,7 +41,7 @@ plain-operated s ops.Item v y r read = tested_judged s r (operated_on ops.Item (
 plain-operated s ops.Has v y r read = tested_judged s r (operated_on ops.Has (plain v) y) read
 plain-operated s ops.Size v y r read = tested_judged s r (operated_on ops.Size (plain v) y) read
 
-pub several-operated : (s : Scope) (op : Op) (xs : Answers) (y : Answer) (r : Result Value Halt) → Tests s op (several xs) y r
+pub several-operated : (s : Scope) (op : Op) (xs : AnswerList) (y : Answer) (r : Result Value Halt) → Tests s op (several xs) y r
 several-operated s ops.Add xs y r read = tested_judged s r (operated_on ops.Add (several xs) y) read
 several-operated s ops.Sub xs y r read = tested_judged s r (operated_on ops.Sub (several xs) y) read
 several-operated s ops.Mul xs y r read = tested_judged s r (operated_on ops.Mul (several xs) y) read

@@ -10,7 +10,7 @@ use Rattle.snap_core.proofs.Views.{view-Dict}
 use Rattle.pointer_core.specs.declared.refusal.Rule.{Rule}
 use Rattle.expr_syntax.specs.declared.expr.Entry.{Entry}
 use Rattle.eval_core.specs.declared.site.Site.{Site}
-use Rattle.eval_core.specs.Answer.{Answer, Answers, plain, answer, no_answers}
+use Rattle.eval_core.specs.Answer.{Answer, AnswerList, plain, answer, no_answers}
 use Rattle.eval_core.specs.Sight.{Sight}
 use Rattle.eval_core.specs.Run.{Fault}
 use Rattle.eval_core.specs.Scope.{Scope, at_site, judged, gives}

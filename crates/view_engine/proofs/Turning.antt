@@ -1,7 +1,7 @@
 -- What walks gather.
 use Rattle.std.proofs.Common.{◌≡◌, List, [], ◌∷◌, ◌++◌, map, Result, Ok, Err, refl, sym, ◌∙◌, ap, subst}
 use Rattle.pointer_core.specs.declared.refusal.Rule.{Rule}
-use Rattle.eval_core.specs.Answer.{Answer, Answers, answer, no_answers, several, with_last}
+use Rattle.eval_core.specs.Answer.{Answer, AnswerList, answer, no_answers, several, with_last}
 use Rattle.eval_core.specs.Scope.{Scope, judged, gives, at_site}
 use Rattle.expr_syntax.specs.Syntax as syntax
 use Rattle.eval_core.specs.Operating.{in_bounds}

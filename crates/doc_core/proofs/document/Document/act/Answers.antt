@@ -3,7 +3,7 @@ use Rattle.snap_core.specs.View.{items_view}
 use Rattle.type_table.specs.Table.{Catalog}
 use Rattle.tree_core.specs.State.{State}
 use Rattle.answer_ops.specs.View.{answers_of}
-use Rattle.eval_core.specs.Answer.{Answers}
+use Rattle.eval_core.specs.Answer.{AnswerList}
 use Rattle.expr_core.specs.Schema.{behaviours_shown}
 use Rattle.live_tree.specs.Contents.{Contents, state}
 use Rattle.action_core.specs.Behaving.{Callee}
@@ -34,7 +34,7 @@ returns-clause-staged g c =
     let schema = c.args.schema.now in
     let types : Catalog = schema.types in
     let s : State = state c.self.inside.tree in
-    let given : Answers = answers_of c.in_ok-args.args in
+    let given : AnswerList = answers_of c.in_ok-args.args in
     let callee : Callee = record { node = c.in-Some.node; name = c.args.name.now; given = given } in
     let Documents : Contents → Type 0 = λ t. IsDocument types (state t) in
     let document : IsDocument types s = subst Documents (sym c.self.view_is) c.requires.document in
@@ -48,7 +48,7 @@ returns-clause-plain g c =
     let schema = c.args.schema.now in
     let types : Catalog = schema.types in
     let s : State = state c.self.inside.tree in
-    let given : Answers = answers_of c.in_ok-args.args in
+    let given : AnswerList = answers_of c.in_ok-args.args in
     let callee : Callee = record { node = c.in-Some.node; name = c.args.name.now; given = given } in
     let Documents : Contents → Type 0 = λ t. IsDocument types (state t) in
     let document : IsDocument types s = subst Documents (sym c.self.view_is) c.requires.document in
