@@ -23,3 +23,4 @@ mod taking;
 
 pub use giving::{Giving, change_for};
 pub use laws::nodes_are_given_in_turn;
+pub use plain::{are_plain, copy_plains};
