@@ -21,6 +21,13 @@ find-with_snapshot name v w (d ∷ docs) found = same_key name d.name
     (λ same e. rw (e, e) refl)
     (λ e. rw (e, e) (find-with_snapshot name v w docs (rw e at found)))
 
+pub with_snapshot-same : (name : List ℕ) (v : Value) (docs : Docs) → find name docs ≡ Some v → with_snapshot name v docs ≡ docs
+with_snapshot-same name v [] found = absurd (cc)
+with_snapshot-same name v (d ∷ docs) found = same_key name d.name
+    (λ same e. let shown : Some d.snapshot ≡ Some v = rw e at found in
+    let equal : v ≡ d.snapshot = cc in rw e (ap (λ (w : Value). record d { snapshot = w } ∷ docs) equal))
+    (λ e. rw e (ap (λ (ds : Docs). d ∷ ds) (with_snapshot-same name v docs (rw e at found))))
+
 pub find-with_doc : (new : Doc) (docs : Docs) → find new.name docs ≡ None → find new.name (with_doc new docs) ≡ Some new.snapshot
 find-with_doc new [] none = rw (bytes_eq-same new.name) refl
 find-with_doc new (d ∷ docs) none = same_key new.name d.name

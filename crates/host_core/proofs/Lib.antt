@@ -11,4 +11,5 @@ pub mod Called
 pub mod Spelled
 pub mod Hosting
 pub mod OneDocument
+pub mod Refusing
 pub mod SoundChanges

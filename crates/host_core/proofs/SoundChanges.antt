@@ -15,13 +15,16 @@ use Rattle.doc_core.specs.Documents.{IsCopy}
 use Rattle.doc_core.specs.Laws.{IsSoundDocument, ChangesFully}
 use Rattle.doc_core.proofs.Leading.{changes-lead}
 use Rattle.doc_core.proofs.Typed.{nothing-logged}
-use Rattle.host_core.specs.Answering.{Done, act_done, acting, change_done, patching, replacing}
+use Rattle.host_core.specs.Answering.{Done, act_done, acting, change_done, patching, refusal_reply, replacing, stays}
 use Rattle.host_core.specs.Asking.{Visit, Acts, Changes, Replaces}
 use Rattle.host_core.specs.Calling.{Call, Calls}
 use Rattle.host_core.specs.Keeping.{unrefused}
 use Rattle.host_core.specs.Reading.{Read, Lists, value_in}
-use Rattle.host_core.specs.Sound.{IsPlainSchema, IsSoundSnapshot, StaysSound, ChangesTell}
+use Rattle.snap_json.specs.Reading.{reading}
+use Rattle.http_front.specs.Reply.{Reply}
+use Rattle.host_core.specs.Sound.{IsPlainSchema, IsRefusalReply, IsSoundSnapshot, StaysSound, ChangesTell}
 use Rattle.host_core.proofs.Kept.{unrefused-done}
+use Rattle.host_core.proofs.Refusing.{call-refused, list-refused, value-refused}
 use Rattle.host_core.proofs.Spelled.{calls-plain, patches-plain, spelled-plain}
 
 -- a copy of a sound snapshot is a sound document
@@ -39,10 +42,15 @@ copy-sound types snapshot s copy sound =
       };
     }
 
+-- a refusal leaves it as it is
+left-as : (types : Catalog) (snapshot : Value) (s : State) (reply : Reply) → bare s.tree ≡ snapshot → IsSoundSnapshot types snapshot → IsRefusalReply reply
+    → StaysSound types snapshot (stays s reply)
+left-as types snapshot s reply shows sound refused = (subst (IsSoundSnapshot types) (sym shows) sound, inl (record { reply = refused; same = shows }))
+
 -- what an action comes to, and what a change does
 act-tells : (types : Catalog) (snapshot : Value) (s : State) (o : Outcome Acted) → bare s.tree ≡ snapshot → IsSoundSnapshot types snapshot
     → ((acted : Acted) → o ≡ Ok acted → ChangesFully types s acted.after) → StaysSound types snapshot (act_done s o)
-act-tells types snapshot s (Err refusal) shows sound full = (subst (IsSoundSnapshot types) (sym shows) sound, inl shows)
+act-tells types snapshot s (Err refusal) shows sound full = left-as types snapshot s (refusal_reply refusal) shows sound (refusal.rule, inr (refusal.path, refl))
 act-tells types snapshot s (Ok acted) shows sound full =
     let after : State = acted.after in
     let change : ChangesFully types s after = full acted refl in
@@ -74,10 +82,11 @@ change-tells types snapshot s o shows sound full =
 
 snapshot-tells : (visit : Visit) (snapshot : Value) (done : Done) → IsSoundSnapshot visit.types snapshot → Replaces visit snapshot done → StaysSound visit.types snapshot done
 snapshot-tells visit snapshot done sound (s, copy, is) =
-    subst (StaysSound visit.types snapshot) (sym is) (by (value_in visit.request.body) (spelled-plain visit.request.body)) where
-      by : (given : Read Value) → IfOk given (λ (v : Value). IsPlain v) → StaysSound visit.types snapshot (replacing visit.types s given)
-      by (Err reply) plain = (subst (IsSoundSnapshot visit.types) (sym copy.shows) sound, inl copy.shows)
-      by (Ok v) plain =
+    subst (StaysSound visit.types snapshot) (sym is) (by (value_in visit.request.body) (spelled-plain visit.request.body) (value-refused (reading visit.request.body))) where
+      by : (given : Read Value) → IfOk given (λ (v : Value). IsPlain v) → ((reply : Reply) → given ≡ Err reply → IsRefusalReply reply)
+          → StaysSound visit.types snapshot (replacing visit.types s given)
+      by (Err reply) plain refused = left-as visit.types snapshot s reply copy.shows sound (refused reply refl)
+      by (Ok v) plain refused =
           change-tells visit.types snapshot s (replaced visit.types v s) copy.shows sound
           (λ after e. changes-lead.by_snapshot visit.types v s after (copy-sound visit.types snapshot s copy sound) plain e)
 
@@ -86,7 +95,9 @@ patches-tell : (visit : Visit) (snapshot : Value) (done : Done) → IsSoundSnaps
 patches-tell visit snapshot done sound few (s, copy, given, lists, is) =
     subst (StaysSound visit.types snapshot) (sym is) (by given lists) where
       by : (given : Read (List Patch)) → Lists visit.request.body given → StaysSound visit.types snapshot (patching visit.types s given)
-      by (Err reply) lists = (subst (IsSoundSnapshot visit.types) (sym copy.shows) sound, inl copy.shows)
+      by (Err reply) lists =
+          left-as visit.types snapshot s reply copy.shows sound
+          (list-refused (value_in visit.request.body) (value-refused (reading visit.request.body)) reply lists)
       by (Ok patches) lists =
           change-tells visit.types snapshot s (patched visit.types patches s) copy.shows sound
           (λ after e. changes-lead.by_patches visit.types patches s after (copy-sound visit.types snapshot s copy sound)
@@ -96,7 +107,9 @@ acts-tell : (visit : Visit) (snapshot : Value) (done : Done) → IsPlainSchema v
     → Acts visit snapshot done → StaysSound visit.types snapshot done
 acts-tell visit snapshot done plainly sound (s, copy, called, calls, is) = subst (StaysSound visit.types snapshot) (sym is) (by called calls) where
   by : (called : Read Call) → Calls visit.request.body called → StaysSound visit.types snapshot (acting visit.types visit.behaviours s called)
-  by (Err reply) calls = (subst (IsSoundSnapshot visit.types) (sym copy.shows) sound, inl copy.shows)
+  by (Err reply) calls =
+      left-as visit.types snapshot s reply copy.shows sound
+      (call-refused (value_in visit.request.body) (value-refused (reading visit.request.body)) reply calls)
   by (Ok call) calls =
       act-tells visit.types snapshot s (acted_on visit.types visit.behaviours call.path call.name call.given s) copy.shows sound
       (λ acted e. changes-lead.by_action visit.types visit.behaviours call.path call.name call.given s acted plainly

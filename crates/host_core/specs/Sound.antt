@@ -1,6 +1,8 @@
 -- What changes tell of sound documents.
 use Rattle.std.specs.Prelude.{◌≡◌, ◌<◌, ◌^◌, ◌⊎◌, List, length, Option, Ok}
 use Rattle.snap_core.specs.Value.{Value, IsPlain}
+use Rattle.pointer_core.specs.Path.{Path}
+use Rattle.pointer_core.specs.declared.refusal.Rule.{Rule}
 use Rattle.patch_core.specs.Fits.{LeadsTo}
 use Rattle.patch_core.specs.Inverse.{back}
 use Rattle.patch_core.specs.declared.patch.Patch.{Patch}
@@ -10,6 +12,8 @@ use Rattle.model_syntax.specs.Shown.{ShownBehaviour}
 use Rattle.tree_core.specs.Recorded.{IsSoundValue}
 use Rattle.action_laws.specs.Laws.{IsPlainBehaving}
 use Rattle.action_laws.specs.Schemas.{behaving_by}
+use Rattle.http_front.specs.Reply.{Reply}
+use Rattle.host_replies.specs.Replies.{rule_reply, place_reply}
 use Rattle.host_core.specs.Answering.{Done, acted_reply}
 use Rattle.host_core.specs.Asking.{Visit, Acts, Changes, Replaces}
 use Rattle.host_core.specs.Reading.{Lists}
@@ -32,9 +36,18 @@ pub record TellsChange (before : Value) (done : Done) : Type 0 where
   pub leads : LeadsTo patches before done.snapshot
   pub leads_back : LeadsTo (back patches) done.snapshot before
 
--- the snapshot stays, or the reply tells how it changed; it is sound again
+-- a reply that names a rule, and its place where it has one, and holds no patches
+abbrev pub IsRefusalReply : Reply → Type 0
+IsRefusalReply reply = (rule : Rule) × ((reply ≡ rule_reply rule) ⊎ ((path : Path) × (reply ≡ place_reply rule path)))
+
+-- a change is refused, and the snapshot stays
+pub record IsRefused (before : Value) (done : Done) : Type 0 where
+  pub reply : IsRefusalReply done.reply
+  pub same : done.snapshot ≡ before
+
+-- the change is refused and the snapshot stays, or the reply tells how it changed; it is sound again
 abbrev pub StaysSound : Catalog → Value → Done → Type 0
-StaysSound types before done = IsSoundSnapshot types done.snapshot × ((done.snapshot ≡ before) ⊎ TellsChange before done)
+StaysSound types before done = IsSoundSnapshot types done.snapshot × (IsRefused before done ⊎ TellsChange before done)
 
 -- so it is after a snapshot that is put in the place of a document's own, after patches, as many as a list of them can hold, and
 -- after an action of a plain schema, refused or not

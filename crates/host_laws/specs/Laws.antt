@@ -13,14 +13,14 @@ use Rattle.action_core.specs.Layers.{layers_of}
 use Rattle.action_laws.specs.Schemas.{behaving_by}
 use Rattle.doc_core.specs.Acting.{callee_given, node_pointed, run_of}
 use Rattle.doc_core.specs.Changing.{created}
+use Rattle.doc_core.specs.Documents.{IsCopy}
 use Rattle.http_front.specs.Request.{Request}
-use Rattle.host_core.specs.Answering.{acting, refusal_reply, stays}
 use Rattle.host_core.specs.Asking.{Visit, Answer, Steps}
-use Rattle.host_core.specs.Calling.{Call}
-use Rattle.route_core.specs.Ask.{create, well, asked_by}
+use Rattle.host_core.specs.Calling.{Call, Calls}
+use Rattle.route_core.specs.Ask.{act, create, well, asked_by}
 use Rattle.host_core.specs.Docs.{Docs, AreNamed, find}
 use Rattle.host_core.specs.Laws.{Alike, on_doc}
-use Rattle.host_core.specs.Sound.{IsPlainSchema}
+use Rattle.host_core.specs.Sound.{IsPlainSchema, IsRefusalReply}
 use Rattle.host_laws.specs.Runs.{IsShort, Runs, AreTold, IsTaken, requests_on, replies_on}
 use Rattle.host_laws.specs.Sound.{IsSettledDocument, IsSettledSnapshot, AreSoundDocs}
 
@@ -62,12 +62,24 @@ RunsAreOwn =
     → (own : List Answer) × Runs types behaviours [] (requests_on name requests) own
     × (map (λ (answer : Answer). answer.reply) own ≡ replies_on name requests answers)
 
--- Where an action that an atomic middleware surrounds ends refused, its request leaves the document as it was, and its reply
--- is the refusal alone.
+-- a call of a document runs an action that an atomic middleware surrounds, and the action ends refused
+pub record FailsInAtomic (types : Catalog) (behaviours : List ShownBehaviour) (call : Call) (s : State) : Type 0 where
+  pub called : NodeNo
+  pub refusal : Refused
+  pub there : node_pointed types call.path call.name s.tree ≡ Ok called
+  pub atomic : HasAtomic (layers_of (behaving_by types behaviours) (callee_given called call.name call.given) s.tree)
+  pub refused : (run_of types behaviours (callee_given called call.name call.given) s).outcome ≡ Err refusal
+
+-- documents as they were, and a refusal that holds no patches
+pub record LeavesAll (docs : Docs) (answer : Answer) : Type 0 where
+  pub docs : answer.docs ≡ docs
+  pub reply : IsRefusalReply answer.reply
+
+-- A request for an action that ends refused under an atomic middleware leaves all documents as they were, and its reply is a
+-- refusal without patches.
 abbrev pub FailedAtomicsStay : Type 0
 FailedAtomicsStay =
-    (types : Catalog) (behaviours : List ShownBehaviour) (call : Call) (s : State) (n : NodeNo) (refusal : Refused) → IsSettledDocument types s
-    → node_pointed types call.path call.name s.tree ≡ Ok n
-    → HasAtomic (layers_of (behaving_by types behaviours) (callee_given n call.name call.given) s.tree)
-    → (run_of types behaviours (callee_given n call.name call.given) s).outcome ≡ Err refusal
-    → acting types behaviours s (Ok call) ≡ stays s (refusal_reply refusal)
+    (visit : Visit) (docs : Docs) (answer : Answer) (name : List ℕ) (snapshot : Value)
+    → asked_by visit.request.method visit.request.path ≡ well (act name) → find name docs ≡ Some snapshot → IsSettledSnapshot visit.types snapshot
+    → ((call : Call) (s : State) → Calls visit.request.body (Ok call) → IsCopy visit.types snapshot s → FailsInAtomic visit.types visit.behaviours call s)
+    → Steps visit docs answer → LeavesAll docs answer

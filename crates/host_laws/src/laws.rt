@@ -17,7 +17,8 @@ pub fn runs_stay_sound()
     ensures { RunsStaySound }
 {}
 
-/// A refused action that an atomic middleware surrounds leaves its document as it was, and its reply is the refusal alone.
+/// A request for an action that ends refused under an atomic middleware leaves all documents as they were, and its reply is a
+/// refusal without patches.
 pub fn failed_atomics_stay()
     ensures { FailedAtomicsStay }
 {
