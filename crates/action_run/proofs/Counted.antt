@@ -11,7 +11,7 @@ use Rattle.action_core.specs.Act.{Ran}
 use Rattle.action_core.specs.Behaving.{counts, most_statements}
 use Rattle.tree_core.specs.Outcome.{refuse}
 use Rattle.action_core.proofs.Composing.{tells-came, counts-came, counts-refused}
-use Rattle.action_steps.specs.Doing.{Point, point, state_at, spent, Came, Acts, IsRefusal}
+use Rattle.action_steps.specs.Doing.{Point, point, state_at, spent, Came, Performs, IsRefusal}
 use Rattle.action_steps.proofs.Doing.{acts-refuses}
 
 below : (n : ℕ) → n < 100000 → nat_lt n most_statements ≡ true
@@ -21,7 +21,7 @@ not_below : (n : ℕ) → 100000 ≤ n → nat_lt n most_statements ≡ false
 not_below n h = le-ltb n 100000 h
 
 pub counted-more : (frame : Path) (n steps : ℕ) (tree : Tree) → n < 100000
-    → Acts (λ (u : Unit {0}). u) (Ok tt) (counts frame) (point tree n steps) (point tree (n + 1) steps)
+    → Performs (λ (u : Unit {0}). u) (Ok tt) (counts frame) (point tree n steps) (point tree (n + 1) steps)
 counted-more frame n steps tree h = record {
   came = λ tried met.
       let a : Point = point tree n steps in
@@ -33,7 +33,7 @@ counted-more frame n steps tree h = record {
 }
 
 pub counted-most : (frame : Path) (e : RunError) (n steps : ℕ) (tree : Tree) → 100000 ≤ n → IsRefusal e frame rule.Budget
-    → Acts {T = Unit {0}} (λ u. u) (Err e) (counts frame) (point tree n steps) (point tree n steps)
+    → Performs {T = Unit {0}} (λ u. u) (Err e) (counts frame) (point tree n steps) (point tree n steps)
 counted-most frame e n steps tree h refused = record {
   came = λ tried met.
       let a : Point = point tree n steps in

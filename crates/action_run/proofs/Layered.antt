@@ -10,7 +10,7 @@ use Rattle.view_engine.specs.declared.halt.RunError.{RunError}
 use Rattle.action_core.specs.Act.{Act, all_or_nothing}
 use Rattle.action_core.specs.Behaving.{Behaving}
 use Rattle.action_core.specs.Calling.{guards, if_admitted}
-use Rattle.action_steps.specs.Doing.{Point, point, Acts, back_at, IsRefusal}
+use Rattle.action_steps.specs.Doing.{Point, point, Performs, back_at, IsRefusal}
 use Rattle.pointer_core.specs.declared.refusal.Rule.TheVariants as rule
 use Rattle.action_steps.proofs.Doing.{acts-then, acts-stop, acts-refuses, acts-kept, acts-taken-back}
 use Rattle.action_core.specs.Calling.{around, surrounded}
@@ -26,29 +26,29 @@ continues-alone inner a result c did = did
 -- A condition that holds.
 
 pub admitted-goes-on : (behaving : Behaving) (frame : Path) (n : NodeNo) (condition : Expression) (inner : Act (Unit {0})) (holds : Bool) (a b : Point) → holds ≡ true
-    → Acts (λ (x : Bool). x) (Ok holds) (guards behaving frame n condition) a b → Continues false (guarded behaving frame n condition inner) inner a b
+    → Performs (λ (x : Bool). x) (Ok holds) (guards behaving frame n condition) a b → Continues false (guarded behaving frame n condition inner) inner a b
 admitted-goes-on behaving frame n condition inner holds a b is did result c rest =
     acts-then (λ (x : Bool). x) (λ (u : Unit {0}). u) holds result (guards behaving frame n condition) (if_admitted frame inner) a b c did
-    (subst (λ x. Acts {T = Unit {0}} (λ u. u) result (if_admitted frame inner x) b c) (sym is) rest)
+    (subst (λ x. Performs {T = Unit {0}} (λ u. u) result (if_admitted frame inner x) b c) (sym is) rest)
 
 pub not-admitted : (behaving : Behaving) (frame : Path) (n : NodeNo) (condition : Expression) (inner : Act (Unit {0})) (holds : Bool) (e : RunError) (a b : Point) → holds ≡ false
-    → Acts (λ (x : Bool). x) (Ok holds) (guards behaving frame n condition) a b → IsRefusal e frame rule.Guarded
-    → Acts {T = Unit {0}} (λ u. u) (Err e) (guarded behaving frame n condition inner) a b
+    → Performs (λ (x : Bool). x) (Ok holds) (guards behaving frame n condition) a b → IsRefusal e frame rule.Guarded
+    → Performs {T = Unit {0}} (λ u. u) (Err e) (guarded behaving frame n condition inner) a b
 not-admitted behaving frame n condition inner holds e a b is did refused =
     acts-then {T = Bool} {U = Unit {0}} (λ x. x) (λ u. u) holds (Err e) (guards behaving frame n condition) (if_admitted frame inner) a b b did
-    (subst (λ x. Acts {T = Unit {0}} (λ u. u) (Err e) (if_admitted frame inner x) b b) (sym is) (acts-refuses {T = Unit {0}} (λ u. u) e frame rule.Guarded b refused))
+    (subst (λ x. Performs {T = Unit {0}} (λ u. u) (Err e) (if_admitted frame inner x) b b) (sym is) (acts-refuses {T = Unit {0}} (λ u. u) e frame rule.Guarded b refused))
 
 pub condition-refused : (behaving : Behaving) (frame : Path) (n : NodeNo) (condition : Expression) (inner : Act (Unit {0})) (e : RunError) (a b : Point)
-    → Acts {T = Bool} (λ x. x) (Err e) (guards behaving frame n condition) a b → Acts {T = Unit {0}} (λ u. u) (Err e) (guarded behaving frame n condition inner) a b
+    → Performs {T = Bool} (λ x. x) (Err e) (guards behaving frame n condition) a b → Performs {T = Unit {0}} (λ u. u) (Err e) (guarded behaving frame n condition inner) a b
 condition-refused behaving frame n condition inner e a b did =
     acts-stop {T = Bool} {U = Unit {0}} (λ x. x) (λ u. u) e (guards behaving frame n condition) (if_admitted frame inner) a b did
 
 -- what ended one call is handed on
 pub guard-handed : (behaving : Behaving) (frame : Path) (n : NodeNo) (condition : Expression) (inner : Act (Unit {0})) (e : RunError) (r : Done) (a b : Point)
-    → IsErrAnd r (λ x. x ≡ e) → Acts {T = Unit {0}} (λ u. u) (Err e) (guarded behaving frame n condition inner) a b → Admits r behaving frame n condition inner a b
+    → IsErrAnd r (λ x. x ≡ e) → Performs {T = Unit {0}} (λ u. u) (Err e) (guarded behaving frame n condition inner) a b → Admits r behaving frame n condition inner a b
 guard-handed behaving frame n condition inner e (Ok u) a b is did = absurd is
 guard-handed behaving frame n condition inner e (Err other) a b is did =
-    subst (λ h. Acts {T = Unit {0}} (λ u. u) (Err h) (guarded behaving frame n condition inner) a b) (sym is) did
+    subst (λ h. Performs {T = Unit {0}} (λ u. u) (Err h) (guarded behaving frame n condition inner) a b) (sym is) did
 
 -- What was passed, and then one middleware more.
 
@@ -56,7 +56,7 @@ guard-handed behaving frame n condition inner e (Err other) a b is did =
 pub guard-passed : (so_far : Bool) (outer middle inner : Act (Unit {0})) (a b c : Point) → c.tree ≡ b.tree → Continues so_far outer middle a b → Continues false middle inner b c
     → Continues so_far outer inner a c
 guard-passed so_far outer middle inner a b c same first next result d did =
-    subst (λ (p : Point). Acts {T = Unit {0}} (λ u. u) result outer a p) (left_same so_far result) (first result d (next result d did))
+    subst (λ (p : Point). Performs {T = Unit {0}} (λ u. u) result outer a p) (left_same so_far result) (first result d (next result d did))
   where
     left_same : (is_atomic : Bool) (r : Done) → left_at is_atomic r b d ≡ left_at is_atomic r c d
     left_same false r = refl
@@ -67,14 +67,14 @@ guard-passed so_far outer middle inner a b c same first next result d did =
 pub atomic-passed : (so_far : Bool) (outer inner : Act (Unit {0})) (a b : Point) → Continues so_far outer (all_or_nothing inner) a b → Continues true outer inner a b
 atomic-passed so_far outer inner a b first (Ok u) d did =
     let k = first (Ok u) d (acts-kept (λ (w : Unit {0}). w) u inner b d did) in
-    subst (λ (p : Point). Acts {T = Unit {0}} (λ w. w) (Ok u) outer a p) (left_ok so_far) k
+    subst (λ (p : Point). Performs {T = Unit {0}} (λ w. w) (Ok u) outer a p) (left_ok so_far) k
   where
     left_ok : (x : Bool) → left_at x (Ok u) b d ≡ d
     left_ok false = refl
     left_ok true = refl
 atomic-passed so_far outer inner a b first (Err e) d did =
     let k = first (Err e) (back_at b d) (acts-taken-back {T = Unit {0}} (λ w. w) e inner b d did) in
-    subst (λ (p : Point). Acts {T = Unit {0}} (λ w. w) (Err e) outer a p) (left_err so_far) k
+    subst (λ (p : Point). Performs {T = Unit {0}} (λ w. w) (Err e) outer a p) (left_err so_far) k
   where
     left_err : (x : Bool) → left_at x (Err e) b (back_at b d) ≡ back_at b d
     left_err false = refl
@@ -112,16 +112,16 @@ same-left true (Err e) b c same = ap (λ t. point (given_back t c.tree) c.counte
 
 pub passed-refused : (behaving : Behaving) (frame : Path) (so_far : Bool) (outer inner : Act (Unit {0})) (ls rest : List Layer) (l : Layer) (which : Surrounded) (condition : Expression) (e : RunError) (a b c : Point)
     → ls ≡ l ∷ rest → l.middleware ≡ protect which condition → c.tree ≡ b.tree → Continues so_far outer (surrounded behaving frame ls inner) a b
-    → Acts {T = Unit {0}} (λ u. u) (Err e) (guarded behaving frame l.node condition (surrounded behaving frame rest inner)) b c
-    → Acts {T = Unit {0}} (λ u. u) (Err e) outer a c
+    → Performs {T = Unit {0}} (λ u. u) (Err e) (guarded behaving frame l.node condition (surrounded behaving frame rest inner)) b c
+    → Performs {T = Unit {0}} (λ u. u) (Err e) outer a c
 passed-refused behaving frame so_far outer inner ls rest l which condition e a b c first is same so did =
-    subst (λ (p : Point). Acts {T = Unit {0}} (λ u. u) (Err e) outer a p) (same-left so_far (Err e) b c same)
+    subst (λ (p : Point). Performs {T = Unit {0}} (λ u. u) (Err e) outer a p) (same-left so_far (Err e) b c same)
     (subst (λ act. Continues so_far outer act a b) (opened behaving frame inner ls rest l (protect which condition) first is) so (Err e) c did)
 
 pub passes-handed : (outer inner : Act (Unit {0})) (e : RunError) (r : Result Bool RunError) (a b : Point) → IsErrAnd r (λ x. x ≡ e)
-    → Acts {T = Unit {0}} (λ u. u) (Err e) outer a b → Passes r outer inner a b
+    → Performs {T = Unit {0}} (λ u. u) (Err e) outer a b → Passes r outer inner a b
 passes-handed outer inner e (Ok x) a b is did = absurd is
-passes-handed outer inner e (Err other) a b is did = subst (λ h. Acts {T = Unit {0}} (λ u. u) (Err h) outer a b) (sym is) did
+passes-handed outer inner e (Err other) a b is did = subst (λ h. Performs {T = Unit {0}} (λ u. u) (Err h) outer a b) (sym is) did
 
 pub and-true : (x y : Bool) → x ≡ true → y ≡ true → x && y ≡ true
 and-true true y h k = k
@@ -143,11 +143,11 @@ continues-at x y n m counted tree outer inner a is same so =
 -- A body within its middleware, and then the tree of before, where one of it is atomic.
 
 pub surround-stays : (so_far : Bool) (outer inner : Act (Unit {0})) (r : Done) (a b c : Point) → so_far && is_err r ≡ false → Continues so_far outer inner a b
-    → Acts (λ u. u) r inner b c → Acts (λ u. u) r outer a c
+    → Performs (λ u. u) r inner b c → Performs (λ u. u) r outer a c
 surround-stays so_far outer inner r a b c stays so did =
-    subst (λ (p : Point). Acts {T = Unit {0}} (λ u. u) r outer a p) (ap (λ x. if x then back_at b c else c) stays) (so r c did)
+    subst (λ (p : Point). Performs {T = Unit {0}} (λ u. u) r outer a p) (ap (λ x. if x then back_at b c else c) stays) (so r c did)
 
 pub surround-back : (so_far : Bool) (outer inner : Act (Unit {0})) (r : Done) (a b c d : Point) → so_far && is_err r ≡ true → d ≡ back_at b c → Continues so_far outer inner a b
-    → Acts (λ u. u) r inner b c → Acts (λ u. u) r outer a d
+    → Performs (λ u. u) r inner b c → Performs (λ u. u) r outer a d
 surround-back so_far outer inner r a b c d backs is so did =
-    subst (λ (p : Point). Acts {T = Unit {0}} (λ u. u) r outer a p) (ap (λ x. if x then back_at b c else c) backs ∙ sym is) (so r c did)
+    subst (λ (p : Point). Performs {T = Unit {0}} (λ u. u) r outer a p) (ap (λ x. if x then back_at b c else c) backs ∙ sym is) (so r c did)

@@ -9,7 +9,7 @@ use Rattle.action_core.specs.Act.{Act, ◌>>=◌}
 use Rattle.action_core.specs.Behaving.{Acting, Behaving, Running}
 use Rattle.action_core.specs.Calling.{guards, if_admitted, called}
 use Rattle.action_core.specs.Running.{is_budget}
-use Rattle.action_steps.specs.Doing.{Point, Acts, back_at}
+use Rattle.action_steps.specs.Doing.{Point, Performs, back_at}
 
 abbrev pub Done : Type 0
 Done = Result (Unit {0}) RunError
@@ -26,12 +26,12 @@ left_at is_atomic result a c = if is_atomic && is_err result then back_at a c el
 -- what is inside does what is outside as well
 abbrev pub Continues : (is_atomic : Bool) (outer inner : Act (Unit {0})) (a b : Point) → Type 0
 Continues is_atomic outer inner a b =
-    (result : Done) (c : Point) → Acts (λ u. u) result inner b c → Acts (λ u. u) result outer a (left_at is_atomic result b c)
+    (result : Done) (c : Point) → Performs (λ u. u) result inner b c → Performs (λ u. u) result outer a (left_at is_atomic result b c)
 
 -- the middleware is passed, one of it being atomic or none; or it ends the action
 abbrev pub Passes : Result Bool RunError → Act (Unit {0}) → Act (Unit {0}) → Point → Point → Type 0
 Passes (Ok is_atomic) outer inner a b = Continues is_atomic outer inner a b
-Passes (Err e) outer inner a b = Acts {T = Unit {0}} (λ u. u) (Err e) outer a b
+Passes (Err e) outer inner a b = Performs {T = Unit {0}} (λ u. u) (Err e) outer a b
 
 abbrev pub guarded : Behaving → Path → NodeNo → Expression → Act (Unit {0}) → Act (Unit {0})
 guarded behaving frame n condition inner = do
@@ -41,7 +41,7 @@ guarded behaving frame n condition inner = do
 -- a condition holds, and what it guards goes on; or it ends the action
 abbrev pub Admits : Done → Behaving → Path → NodeNo → Expression → Act (Unit {0}) → Point → Point → Type 0
 Admits (Ok u) behaving frame n condition inner a b = Continues false (guarded behaving frame n condition inner) inner a b
-Admits (Err e) behaving frame n condition inner a b = Acts {T = Unit {0}} (λ u. u) (Err e) (guarded behaving frame n condition inner) a b
+Admits (Err e) behaving frame n condition inner a b = Performs {T = Unit {0}} (λ u. u) (Err e) (guarded behaving frame n condition inner) a b
 
 -- by what the statements of an action run that is one more of those that run
 abbrev pub running_by : Behaving → ℕ → List NodeNo → Path → Acting

@@ -4,7 +4,7 @@ ghost use Rattle.list_core.specs.Outcome.{Gives};
 ghost use Rattle.answer_ops.specs.View.{answer_of};
 ghost use Rattle.action_core.specs.Behaving.{counts};
 ghost use Rattle.tree_core.specs.State.{State as Tree};
-ghost use Rattle.action_steps.specs.Doing.{Acts, point};
+ghost use Rattle.action_steps.specs.Doing.{Performs, point};
 ghost use Rattle.action_steps.specs.Acting.{env_of};
 
 use action_steps::refused;
@@ -20,7 +20,7 @@ const MOST_STATEMENTS: u32 = 100_000;
 
 /// Counts one statement more, in a frame.
 pub fn count(frame: &Pointer, counted: &mut u32) -> Result<(), RunError>
-    ensures did { (tree : Tree) (steps : ℕ) → Acts (λ u. u) result (counts frame.now) (point tree counted.old steps) (point tree counted.new steps) }
+    ensures did { (tree : Tree) (steps : ℕ) → Performs (λ u. u) result (counts frame.now) (point tree counted.old steps) (point tree counted.new steps) }
     ensures more { OnOk result (counted.new ≡ suc counted.old) }
     ensures within { OnOk result (counted.new ≤ 100000) }
 {

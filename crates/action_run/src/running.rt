@@ -9,7 +9,7 @@ ghost use Rattle.plain_answers.specs.Plainness.{IsPlainAnswer, ArePlainAnswers, 
 ghost use Rattle.action_core.specs.Calling.{called, surrounded};
 ghost use Rattle.plain_answers.specs.EachExpression.{HoldsInEach, HoldsInStatement, HoldsInBlock};
 ghost use Rattle.action_core.specs.Running.{ran, ran_block, is_budget};
-ghost use Rattle.action_steps.specs.Doing.{Acts, point, IsRefusal};
+ghost use Rattle.action_steps.specs.Doing.{Performs, point, IsRefusal};
 ghost use Rattle.action_run.specs.Surrounding.{is_rescued, running_by};
 ghost use Rattle.action_steps.specs.Acting.{behaving_of, running_of, acting_of, callee_of, layer_of, env_of};
 
@@ -39,7 +39,7 @@ pub fn run_block<L: Ledger>(
 ) -> Result<(), RunError>
     requires constants { HoldsInBlock HasPlainConstants (block_shown block.now) }
     requires bound { IsPlainEnv (env_of env.old) }
-    ensures did { Acts (λ u. u) result (ran_block (acting_of acting.now) (block_shown block.now) (env_of env.old))
+    ensures did { Performs (λ u. u) result (ran_block (acting_of acting.now) (block_shown block.now) (env_of env.old))
         (point (state tree.old) counted.old steps.old) (point (state tree.new) counted.new steps.new) }
     ensures env { env.new ≡ env.old }
 {
@@ -67,7 +67,7 @@ fn run_statements<L: Ledger>(
 ) -> Result<(), RunError>
     requires constants { HoldsInBlock HasPlainConstants (statements (map stmt_shown listed.now)) }
     requires bound { IsPlainEnv (env_of env.old) }
-    ensures did { Acts (λ u. u) result (ran_block (acting_of acting.now) (statements (map stmt_shown listed.now)) (env_of env.old))
+    ensures did { Performs (λ u. u) result (ran_block (acting_of acting.now) (statements (map stmt_shown listed.now)) (env_of env.old))
         (point (state tree.old) counted.old steps.old) (point (state tree.new) counted.new steps.new) }
     ensures kept { take (length env.old.bindings) env.new.bindings ≡ env.old.bindings }
 {
@@ -90,7 +90,7 @@ fn run_statement<L: Ledger>(
 ) -> Result<(), RunError>
     requires constants { HoldsInStatement HasPlainConstants (stmt_shown statement.now) }
     requires bound { IsPlainEnv (env_of env.old) }
-    ensures did { Acts (λ u. env_of env.new) result (ran (acting_of acting.now) (stmt_shown statement.now) (env_of env.old))
+    ensures did { Performs (λ u. env_of env.new) result (ran (acting_of acting.now) (stmt_shown statement.now) (env_of env.old))
         (point (state tree.old) counted.old steps.old) (point (state tree.new) counted.new steps.new) }
     ensures bound { IsPlainEnv (env_of env.new) }
     ensures kept { take (length env.old.bindings) env.new.bindings ≡ env.old.bindings }
@@ -108,16 +108,8 @@ fn run_statement<L: Ledger>(
         Stmt::If(c, yes, no) => choose(&*acting, c, yes, no, env, tree, counted, steps),
         Stmt::Each(e, name, body) => each(&*acting, e, name, body, env, tree, counted, steps),
         Stmt::Call(on, name, args) => {
-            call_on(
-                &*acting,
-                on,
-                name,
-                args.as_slice(),
-                &*env,
-                tree,
-                counted,
-                steps,
-            )
+            let args = args.as_slice();
+            call_on(&*acting, on, name, args, &*env, tree, counted, steps)
         }
         Stmt::Try(first, second) => attempt(&*acting, first, second, env, tree, counted, steps),
         Stmt::Throw(reason) => Err(thrown(&*acting, reason)),
@@ -135,7 +127,7 @@ fn bind_value<L: Ledger>(
 ) -> Result<(), RunError>
     requires constants { HasPlainConstants (shown e.now) }
     requires bound { IsPlainEnv (env_of env.old) }
-    ensures did { (counted : ℕ) → Acts (λ _. env_of env.new) result (ran (acting_of acting.now) (syntax.Statement.bind name.now (shown e.now)) (env_of env.old))
+    ensures did { (counted : ℕ) → Performs (λ _. env_of env.new) result (ran (acting_of acting.now) (syntax.Statement.bind name.now (shown e.now)) (env_of env.old))
         (point (state tree.now) counted steps.old) (point (state tree.now) counted steps.new) }
     ensures bound { IsPlainEnv (env_of env.new) }
     ensures kept { take (length env.old.bindings) env.new.bindings ≡ env.old.bindings }
@@ -170,7 +162,7 @@ fn choose<L: Ledger>(
     requires yes { HoldsInBlock HasPlainConstants (block_shown yes.now) }
     requires no { HoldsInBlock HasPlainConstants (block_shown no.now) }
     requires bound { IsPlainEnv (env_of env.old) }
-    ensures did { Acts (λ _. env_of env.old) result (ran (acting_of acting.now) (syntax.Statement.choice (shown c.now) (block_shown yes.now) (block_shown no.now)) (env_of env.old))
+    ensures did { Performs (λ _. env_of env.old) result (ran (acting_of acting.now) (syntax.Statement.choice (shown c.now) (block_shown yes.now) (block_shown no.now)) (env_of env.old))
         (point (state tree.old) counted.old steps.old) (point (state tree.new) counted.new steps.new) }
     ensures env { env.new ≡ env.old }
 {
@@ -197,7 +189,7 @@ fn each<L: Ledger>(
     requires over { HasPlainConstants (shown e.now) }
     requires body { HoldsInBlock HasPlainConstants (block_shown body.now) }
     requires bound { IsPlainEnv (env_of env.old) }
-    ensures did { Acts (λ _. env_of env.old) result (ran (acting_of acting.now) (syntax.each (shown e.now) name.now (block_shown body.now)) (env_of env.old))
+    ensures did { Performs (λ _. env_of env.old) result (ran (acting_of acting.now) (syntax.each (shown e.now) name.now (block_shown body.now)) (env_of env.old))
         (point (state tree.old) counted.old steps.old) (point (state tree.new) counted.new steps.new) }
     ensures env { env.new ≡ env.old }
 {
@@ -230,7 +222,7 @@ fn run_turn<L: Ledger>(
     requires constants { HoldsInBlock HasPlainConstants (block_shown turn.now.body.now) }
     requires value { IsPlainAnswer (answer_of turn.now.value.now) }
     requires bound { IsPlainEnv (env_of env.old) }
-    ensures did { Acts (λ u. u) result (ran_block (acting_of acting.now) (block_shown turn.now.body.now) ((turn.now.name.now, answer_of turn.now.value.now) ∷ env_of env.old))
+    ensures did { Performs (λ u. u) result (ran_block (acting_of acting.now) (block_shown turn.now.body.now) ((turn.now.name.now, answer_of turn.now.value.now) ∷ env_of env.old))
         (point (state tree.old) counted.old steps.old) (point (state tree.new) counted.new steps.new) }
     ensures env { env.new ≡ env.old }
 {
@@ -257,7 +249,7 @@ fn call_on<L: Ledger>(
     requires on { HasPlainConstants (shown on.now) }
     requires args { HoldsInEach HasPlainConstants (expressions (map shown args.now)) }
     requires bound { IsPlainEnv (env_of env.now) }
-    ensures did { Acts (λ _. env_of env.now) result (ran (acting_of acting.now) (syntax.call (shown on.now) name.now (expressions (map shown args.now))) (env_of env.now))
+    ensures did { Performs (λ _. env_of env.now) result (ran (acting_of acting.now) (syntax.call (shown on.now) name.now (expressions (map shown args.now))) (env_of env.now))
         (point (state tree.old) counted.old steps.old) (point (state tree.new) counted.new steps.new) }
 {
     let parts = call_parts(&*acting, on, args, env, &*tree, steps)?;
@@ -284,7 +276,7 @@ fn attempt<L: Ledger>(
     requires first { HoldsInBlock HasPlainConstants (block_shown first.now) }
     requires second { HoldsInBlock HasPlainConstants (block_shown second.now) }
     requires bound { IsPlainEnv (env_of env.old) }
-    ensures did { Acts (λ _. env_of env.old) result (ran (acting_of acting.now) (syntax.attempt (block_shown first.now) (block_shown second.now)) (env_of env.old))
+    ensures did { Performs (λ _. env_of env.old) result (ran (acting_of acting.now) (syntax.attempt (block_shown first.now) (block_shown second.now)) (env_of env.old))
         (point (state tree.old) counted.old steps.old) (point (state tree.new) counted.new steps.new) }
     ensures env { env.new ≡ env.old }
 {
@@ -321,7 +313,7 @@ pub fn call<L: Ledger>(
     steps: &mut Steps<L>,
 ) -> Result<(), RunError>
     requires { ArePlainAnswers (answers_of callee.now.args.now) }
-    ensures { Acts (λ u. u) result (called (behaving_of acting.now.schema.now) acting.now.room (running_of acting.now) (callee_of callee.now))
+    ensures { Performs (λ u. u) result (called (behaving_of acting.now.schema.now) acting.now.room (running_of acting.now) (callee_of callee.now))
         (point (state tree.old) counted.old steps.old) (point (state tree.new) counted.new steps.new) }
 {
     let Begun {
@@ -381,7 +373,7 @@ fn surround<L: Ledger>(
 ) -> Result<(), RunError>
     requires constants { HoldsInBlock HasPlainConstants (block_shown body.now) }
     requires bound { IsPlainEnv (env_of env.old) }
-    ensures { Acts (λ u. u) result (surrounded (behaving_of within.now.schema.now) within.now.frame.now (map layer_of layers.now) (ran_block (acting_of within.now) (block_shown body.now) (env_of env.old)))
+    ensures { Performs (λ u. u) result (surrounded (behaving_of within.now.schema.now) within.now.frame.now (map layer_of layers.now) (ran_block (acting_of within.now) (block_shown body.now) (env_of env.old)))
         (point (state tree.old) counted.old steps.old) (point (state tree.new) counted.new steps.new) }
 {
     let mark = tree.mark();

@@ -19,7 +19,7 @@ use Rattle.view_engine.specs.declared.halt.RunError.TheVariants as halts
 use Rattle.action_core.specs.Act.{Tried, Met, State, Ran, Act, came, tells, refuses, looks, ◌>>=◌, or_else, all_or_nothing, taken_back}
 use Rattle.action_core.specs.Behaving.{on_node}
 use Rattle.action_core.proofs.Composing.{then-came, then-refused, tried-came, tried-refused, atomic-came, atomic-refused, tells-came, looks-came}
-use Rattle.action_steps.specs.Doing.{Point, state_at, spent, Stands, Came, Acts, back_at, IsOutcome, IsRefusal, IsNodeIn}
+use Rattle.action_steps.specs.Doing.{Point, state_at, spent, Stands, Came, Performs, back_at, IsOutcome, IsRefusal, IsNodeIn}
 
 -- A point stands for its state.
 
@@ -47,7 +47,7 @@ came_on seen (Err halts.Memory) ran a b c before s first next = tt
 -- One call and then another one.
 
 pub acts-then : {T U A B : Type 0} (seen : T → A) (then_seen : U → B) (x : T) (r : Result U RunError) (act : Act A) (next : A → Act B) (a b c : Point)
-    → Acts seen (Ok x) act a b → Acts then_seen r (next (seen x)) b c → Acts then_seen r (act >>= next) a c
+    → Performs seen (Ok x) act a b → Performs then_seen r (next (seen x)) b c → Performs then_seen r (act >>= next) a c
 acts-then {T} {U} {A} {B} seen then_seen x r act next a b c first second = record {
   came = λ tried met.
       let s : State = state_at a tried met in
@@ -64,7 +64,7 @@ acts-then {T} {U} {A} {B} seen then_seen x r act next a b c first second = recor
 }
 
 pub acts-stop : {T U A B : Type 0} (seen : T → A) (then_seen : U → B) (e : RunError) (act : Act A) (next : A → Act B) (a b : Point)
-    → Acts {T = T} seen (Err e) act a b → Acts {T = U} then_seen (Err e) (act >>= next) a b
+    → Performs {T = T} seen (Err e) act a b → Performs {T = U} then_seen (Err e) (act >>= next) a b
 acts-stop {T} {U} seen then_seen halts.Memory act next a b first = record { came = λ tried met. tt; back = first.back; rises = first.rises }
 acts-stop {T} {U} {A} {B} seen then_seen (halts.Refused r) act next a b first = record {
   came = λ tried met.
@@ -79,19 +79,19 @@ acts-stop {T} {U} {A} {B} seen then_seen (halts.Refused r) act next a b first = 
 
 -- what ended one call is handed on
 pub acts-handed : {T A : Type 0} (seen : T → A) (e : RunError) (r : Result T RunError) (act : Act A) (a b : Point)
-    → IsErrAnd r (λ x. x ≡ e) → Acts {T = T} seen (Err e) act a b → Acts seen r act a b
+    → IsErrAnd r (λ x. x ≡ e) → Performs {T = T} seen (Err e) act a b → Performs seen r act a b
 acts-handed seen e (Ok x) act a b is did = absurd is
-acts-handed {T} seen e (Err other) act a b is did = subst (λ h. Acts {T = T} seen (Err h) act a b) (sym is) did
+acts-handed {T} seen e (Err other) act a b is did = subst (λ h. Performs {T = T} seen (Err h) act a b) (sym is) did
 
 -- want of memory ends any act, whatever it is
 pub acts-memory : {T A : Type 0} (seen : T → A) (e : RunError) (act : Act A) (a b : Point) → e ≡ halts.Memory → CanBeTakenBack a.tree b.tree → a.counted ≤ b.counted
-    → Acts {T = T} seen (Err e) act a b
+    → Performs {T = T} seen (Err e) act a b
 acts-memory {T} seen e act a b is back rises =
-    subst (λ h. Acts {T = T} seen (Err h) act a b) (sym is) (record { came = λ tried met. tt; back = back; rises = rises })
+    subst (λ h. Performs {T = T} seen (Err h) act a b) (sym is) (record { came = λ tried met. tt; back = back; rises = rises })
 
 -- as it is seen otherwise
 pub acts-seen : {T U A : Type 0} (seen : T → A) (then_seen : U → A) (x : T) (y : U) (act : Act A) (a b : Point) → seen x ≡ then_seen y
-    → Acts seen (Ok x) act a b → Acts then_seen (Ok y) act a b
+    → Performs seen (Ok x) act a b → Performs then_seen (Ok y) act a b
 acts-seen seen then_seen x y act a b same did = record {
   came = λ tried met. let h = did.came tried met in (h.0 ∙ ap Ok same, h.1);
   back = did.back;
@@ -106,7 +106,7 @@ told_at seen (Ok x) o p tried met is = (is, stands-still p tried met)
 told_at seen (Err (halts.Refused r)) o p tried met is = (is, stands-still p tried met)
 told_at seen (Err halts.Memory) o p tried met is = tt
 
-pub acts-tells : {T A : Type 0} (seen : T → A) (r : Result T RunError) (o : Outcome A) (p : Point) → IsOutcome seen r o → Acts seen r (tells o) p p
+pub acts-tells : {T A : Type 0} (seen : T → A) (r : Result T RunError) (o : Outcome A) (p : Point) → IsOutcome seen r o → Performs seen r (tells o) p p
 acts-tells {T} {A} seen r o p is = record {
   came = λ tried met. subst (λ (ran : Ran A). Came seen r ran (spent met) p p) (sym (tells-came o (state_at p tried met))) (told_at seen r o p tried met is);
   back = kept-same p.tree p.tree refl;
@@ -114,7 +114,7 @@ acts-tells {T} {A} seen r o p is = record {
 }
 
 pub acts-looks : {T A : Type 0} (seen : T → A) (r : Result T RunError) (said : Labelled → Outcome A) (p : Point)
-    → IsOutcome seen r (said p.tree.tree) → Acts seen r (looks said) p p
+    → IsOutcome seen r (said p.tree.tree) → Performs seen r (looks said) p p
 acts-looks {T} {A} seen r said p is = record {
   came = λ tried met.
       subst (λ (ran : Ran A). Came seen r ran (spent met) p p) (sym (looks-came said (state_at p tried met))) (told_at seen r (said p.tree.tree) p tried met is);
@@ -127,25 +127,25 @@ refusal_outcome seen halts.Memory path by is = tt
 refusal_outcome {T} {A} seen (halts.Refused r) path by is = subst (λ (q : Refusal). refuse {A = A} path by ≡ Err (refused_as q)) (sym is) refl
 
 pub acts-refuses : {T A : Type 0} (seen : T → A) (e : RunError) (path : Path) (by : Rule) (p : Point) → IsRefusal e path by
-    → Acts {T = T} {A = A} seen (Err e) (refuses path by) p p
+    → Performs {T = T} {A = A} seen (Err e) (refuses path by) p p
 acts-refuses {T} seen e path by p is = acts-tells {T = T} seen (Err e) (refuse path by) p (refusal_outcome {T = T} seen e path by is)
 
 -- A node.
 
 pub acts-node : {T A : Type 0} (seen : T → A) (r : Result T RunError) (frame : Path) (x : Answer) (n : NodeNo) (f : NodeNo → Act A) (a b : Point) → x ≡ node n
-    → Acts seen r (f n) a b → Acts seen r (on_node frame x f) a b
-acts-node seen r frame x n f a b is did = subst (λ y. Acts seen r (on_node frame y f) a b) (sym is) did
+    → Performs seen r (f n) a b → Performs seen r (on_node frame x f) a b
+acts-node seen r frame x n f a b is did = subst (λ y. Performs seen r (on_node frame y f) a b) (sym is) did
 
 pub acts-no-node : {T A : Type 0} (seen : T → A) (e : RunError) (frame : Path) (x : Answer) (f : NodeNo → Act A) (p : Point)
-    → IsNodeIn (Err e) x frame → Acts {T = T} seen (Err e) (on_node frame x f) p p
+    → IsNodeIn (Err e) x frame → Performs {T = T} seen (Err e) (on_node frame x f) p p
 acts-no-node {T} seen e frame (node n) f p is = cc
 acts-no-node {T} seen e frame (plain v) f p is = acts-refuses {T = T} seen e frame rule.Kind p is.1
 acts-no-node {T} seen e frame (several xs) f p is = acts-refuses {T = T} seen e frame rule.Kind p is.1
 
 -- Blocks that are tried, and all or nothing.
 
-pub acts-tried : {T A : Type 0} (seen : T → A) (x : T) (other : Refused → Act A) (act : Act A) (a b : Point) → Acts seen (Ok x) act a b
-    → Acts seen (Ok x) (or_else other act) a b
+pub acts-tried : {T A : Type 0} (seen : T → A) (x : T) (other : Refused → Act A) (act : Act A) (a b : Point) → Performs seen (Ok x) act a b
+    → Performs seen (Ok x) (or_else other act) a b
 acts-tried {T} {A} seen x other act a b did = record {
   came = λ tried met.
       let s : State = state_at a tried met in
@@ -157,7 +157,7 @@ acts-tried {T} {A} seen x other act a b did = record {
 }
 
 pub acts-rescued : {T U A : Type 0} (seen : T → A) (then_seen : U → A) (e : Refusal) (r : Result U RunError) (other : Refused → Act A) (act : Act A) (a b c : Point)
-    → Acts {T = T} seen (Err (halts.Refused e)) act a b → Acts then_seen r (other (refused_as e)) b c → Acts then_seen r (or_else other act) a c
+    → Performs {T = T} seen (Err (halts.Refused e)) act a b → Performs then_seen r (other (refused_as e)) b c → Performs then_seen r (or_else other act) a c
 acts-rescued {T} {U} {A} seen then_seen e r other act a b c first second = record {
   came = λ tried met.
       let s : State = state_at a tried met in
@@ -172,7 +172,7 @@ acts-rescued {T} {U} {A} seen then_seen e r other act a b c first second = recor
   rises = let h = first.rises in let k = second.rises in omega arith;
 }
 
-pub acts-kept : {T A : Type 0} (seen : T → A) (x : T) (act : Act A) (a b : Point) → Acts seen (Ok x) act a b → Acts seen (Ok x) (all_or_nothing act) a b
+pub acts-kept : {T A : Type 0} (seen : T → A) (x : T) (act : Act A) (a b : Point) → Performs seen (Ok x) act a b → Performs seen (Ok x) (all_or_nothing act) a b
 acts-kept {T} {A} seen x act a b did = record {
   came = λ tried met.
       let s : State = state_at a tried met in
@@ -184,7 +184,7 @@ acts-kept {T} {A} seen x act a b did = record {
 }
 
 pub acts-taken-back : {T A : Type 0} (seen : T → A) (e : RunError) (act : Act A) (a b : Point)
-    → Acts {T = T} seen (Err e) act a b → Acts {T = T} seen (Err e) (all_or_nothing act) a (back_at a b)
+    → Performs {T = T} seen (Err e) act a b → Performs {T = T} seen (Err e) (all_or_nothing act) a (back_at a b)
 acts-taken-back {T} seen halts.Memory act a b did = record {
   came = λ tried met. tt;
   back = record { calls = []; edited = tt; joined = refl; led = refl; later = did.back.later };

@@ -30,7 +30,7 @@ use Rattle.action_core.specs.Behaving.{Behaving, told}
 use Rattle.action_core.specs.Running.{two, three, evaluates_in}
 use Rattle.action_core.proofs.Composing.{evaluates-came}
 use Rattle.action_steps.specs.Acting.{behaving_of, acting_of}
-use Rattle.action_steps.specs.Doing.{Point, point, state_at, spent, Stands, Came, Acts, IsOutcome, IsRefusal}
+use Rattle.action_steps.specs.Doing.{Point, point, state_at, spent, Stands, Came, Performs, IsOutcome, IsRefusal}
 use Rattle.action_steps.specs.Parts.{scope_in, telling_in, IsTold, IsTruthIn, Evaluates, EvaluatesIn}
 use Rattle.action_steps.specs.declared.acting.Acting.{Acting}
 
@@ -133,7 +133,7 @@ run-came {T} {A} seen r t run tried met p q tree counted ticks is = by_result r 
 
 pub parts-act : {T A : Type 0} (seen : T → A) (r : Result T RunError) (a : Acting) (tree : Contents) (eval : Scope → Eval A) (n c x y : ℕ)
     → EvaluatesIn a tree seen r eval (course 0 c x y)
-    → Acts seen r (evaluates_in (acting_of a) eval) (point (state tree) n x) (point (state tree) n y)
+    → Performs seen r (evaluates_in (acting_of a) eval) (point (state tree) n x) (point (state tree) n y)
 parts-act {T} {A} seen r a tree eval n c x y h =
     let behaving : Behaving = behaving_of a.schema.now in
     let p : Point = point (state tree) n x in

@@ -12,7 +12,7 @@ use Rattle.view_engine.specs.declared.halt.RunError.{RunError}
 use Rattle.action_core.specs.Act.{State, Ran, Act, root_of}
 use Rattle.action_core.specs.Behaving.{Behaving, sight_in, evaluates}
 use Rattle.action_core.specs.Calling.{guards}
-use Rattle.action_steps.specs.Doing.{Point, state_at, spent, Came, Acts}
+use Rattle.action_steps.specs.Doing.{Point, state_at, spent, Came, Performs}
 
 -- a condition under names
 abbrev holds_under : Behaving → Path → Expression → Env → Act Bool
@@ -24,7 +24,7 @@ unfolding evaluates
 own-names behaving frame n condition s = refl
 
 pub guarded : (behaving : Behaving) (frame : Path) (n : NodeNo) (condition : Expression) (env : Env) (r : Result Bool RunError) (a b : Point)
-    → env ≡ bound_at (sight_in behaving a.tree.tree) n → Acts (λ x. x) r (holds_under behaving frame condition env) a b → Acts (λ x. x) r (guards behaving frame n condition) a b
+    → env ≡ bound_at (sight_in behaving a.tree.tree) n → Performs (λ x. x) r (holds_under behaving frame condition env) a b → Performs (λ x. x) r (guards behaving frame n condition) a b
 guarded behaving frame n condition env r a b is did = record {
   came = λ tried met.
       let s : State = state_at a tried met in

@@ -46,7 +46,7 @@ Came seen (Err Memory) ran before from to = Unit {0}
 
 -- A call did an act from one point to another: it came to what the act comes to, whatever was tried and met before, and
 -- what it did to the tree can be taken back, also where memory ran out.
-pub record Acts {T A : Type 0} (seen : T → A) (result : Result T RunError) (act : Act A) (from to : Point) : Type 0 where
+pub record Performs {T A : Type 0} (seen : T → A) (result : Result T RunError) (act : Act A) (from to : Point) : Type 0 where
   pub came : (tried : List Tried) (met : List Met) → Came seen result (act (state_at from tried met)) (spent met) from to
   pub back : CanBeTakenBack from.tree to.tree
   pub rises : from.counted ≤ to.counted

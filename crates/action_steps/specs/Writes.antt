@@ -14,7 +14,7 @@ use Rattle.view_engine.specs.declared.halt.RunError.{RunError}
 use Rattle.view_engine.specs.declared.halt.RunError.TheVariants.{Memory, Refused}
 use Rattle.action_core.specs.Behaving.{path_in_frame, in_frame, writes}
 use Rattle.action_core.specs.Statements as core
-use Rattle.action_steps.specs.Doing.{IsRefusal, Acts, point}
+use Rattle.action_steps.specs.Doing.{IsRefusal, Performs, point}
 use Rattle.action_steps.specs.declared.naming.Naming.{Naming}
 
 -- a write as a statement names it
@@ -35,4 +35,4 @@ RefusesIn frame Memory outcome = Unit {0}
 abbrev pub Writes : Result (Unit {0}) RunError → Path → Outcome Changed → State → State → Type 0
 Writes result frame outcome before after =
     (change : Tree → Outcome Changed) (counted steps : ℕ) → change (tree_in before) ≡ outcome
-    → Acts (λ x. x) result (writes frame change) (point before counted steps) (point after counted steps)
+    → Performs (λ x. x) result (writes frame change) (point before counted steps) (point after counted steps)

@@ -9,7 +9,7 @@ ghost use Rattle.tree_core.specs.Written.{target};
 ghost use Rattle.action_core.specs.Running.{removes_all};
 ghost use Rattle.action_core.specs.Statements as specs;
 ghost use Rattle.action_steps.specs.Acting.{acting_of};
-ghost use Rattle.action_steps.specs.Doing.{Acts, point};
+ghost use Rattle.action_steps.specs.Doing.{Performs, point};
 
 use crate::acting::Acting;
 use crate::writing::give;
@@ -26,7 +26,7 @@ use view_engine::RunError;
 
 /// Takes each of some places out, one after the other.
 pub fn remove_all(acting: &Acting<'_>, places: &[Place], tree: &mut Tree) -> Result<(), RunError>
-    ensures { (counted steps : ℕ) → Acts (λ x. x) result (removes_all (acting_of acting.now) places.now)
+    ensures { (counted steps : ℕ) → Performs (λ x. x) result (removes_all (acting_of acting.now) places.now)
         (point (state tree.old) counted steps) (point (state tree.new) counted steps) }
 {
     for place in places {

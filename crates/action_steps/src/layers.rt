@@ -10,7 +10,7 @@ ghost use Rattle.live_tree.specs.Contents.{state};
 ghost use Rattle.action_core.specs.Calling.{guards};
 ghost use Rattle.action_core.specs.Layers as specs;
 ghost use Rattle.action_core.specs.Layers.{layers_of, layers_along, own_layers, named_layers};
-ghost use Rattle.action_steps.specs.Doing.{Acts, point};
+ghost use Rattle.action_steps.specs.Doing.{Performs, point};
 ghost use Rattle.action_steps.specs.Acting.{behaving_of, callee_of, layer_of};
 
 use crate::acting::Acting;
@@ -156,7 +156,7 @@ pub fn admits<L: Ledger>(
     tree: &Tree,
     steps: &mut Steps<L>,
 ) -> Result<bool, RunError>
-    ensures { (counted : ℕ) → Acts (λ b. b) result (guards (behaving_of schema.now) guard.now.frame.now guard.now.node (shown guard.now.condition.now))
+    ensures { (counted : ℕ) → Performs (λ b. b) result (guards (behaving_of schema.now) guard.now.frame.now guard.now.node (shown guard.now.condition.now))
         (point (state tree.now) counted steps.old) (point (state tree.now) counted steps.new) }
 {
     let env = own_names(alloc, tree, guard.node)?;

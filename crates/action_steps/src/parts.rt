@@ -10,7 +10,7 @@ ghost use Rattle.eval_core.specs.Evaluating.{evaluated, all_evaluated, truth};
 ghost use Rattle.view_engine.specs.Asks.{items_evaluated};
 ghost use Rattle.view_engine.specs.Did.{course};
 ghost use Rattle.action_core.specs.Running.{two, three, items_read, evaluates_in};
-ghost use Rattle.action_steps.specs.Doing.{Acts, point};
+ghost use Rattle.action_steps.specs.Doing.{Performs, point};
 ghost use Rattle.action_steps.specs.Acting.{acting_of, env_of};
 ghost use Rattle.action_steps.specs.Parts.{EvaluatesIn, IsTruthIn, both_of, three_of, call_of};
 
@@ -36,7 +36,7 @@ pub fn value<L: Ledger>(
 ) -> Result<Value, RunError>
     requires constants { HasPlainConstants (shown e.now) }
     requires bound { IsPlainEnv (env_of env.now) }
-    ensures did { (counted : ℕ) → Acts answer_of result (evaluates_in (acting_of acting.now) (λ s. evaluated s (shown e.now) (env_of env.now)))
+    ensures did { (counted : ℕ) → Performs answer_of result (evaluates_in (acting_of acting.now) (λ s. evaluated s (shown e.now) (env_of env.now)))
         (point (state tree.now) counted steps.old) (point (state tree.now) counted steps.new) }
     ensures plain { IfOk result (λ x. IsPlainAnswer (answer_of x)) }
 {
@@ -52,7 +52,7 @@ pub fn condition<L: Ledger>(
     tree: &Tree,
     steps: &mut Steps<L>,
 ) -> Result<bool, RunError>
-    ensures { (counted : ℕ) → Acts (λ b. b) result (evaluates_in (acting_of acting.now) (λ s. andthen (evaluated s (shown e.now) (env_of env.now)) (truth s)))
+    ensures { (counted : ℕ) → Performs (λ b. b) result (evaluates_in (acting_of acting.now) (λ s. andthen (evaluated s (shown e.now) (env_of env.now)) (truth s)))
         (point (state tree.now) counted steps.old) (point (state tree.now) counted steps.new) }
 {
     let mut counted = 0;
@@ -80,7 +80,7 @@ pub fn items<L: Ledger>(
 ) -> Result<Values, RunError>
     requires constants { HasPlainConstants (shown e.now) }
     requires bound { IsPlainEnv (env_of env.now) }
-    ensures did { (counted : ℕ) → Acts (λ xs. map answer_of xs) result (evaluates_in (acting_of acting.now) (λ s. andthen (evaluated s (shown e.now) (env_of env.now)) (items_read s)))
+    ensures did { (counted : ℕ) → Performs (λ xs. map answer_of xs) result (evaluates_in (acting_of acting.now) (λ s. andthen (evaluated s (shown e.now) (env_of env.now)) (items_read s)))
         (point (state tree.now) counted steps.old) (point (state tree.now) counted steps.new) }
     ensures plain { IfOk result (λ xs. All IsPlainAnswer (map answer_of xs)) }
 {
@@ -146,7 +146,7 @@ pub fn two_parts<L: Ledger>(
 ) -> Result<TwoParts, RunError>
     requires constants { HasPlainConstants (shown second.now) }
     requires bound { IsPlainEnv (env_of env.now) }
-    ensures did { (counted : ℕ) → Acts both_of result
+    ensures did { (counted : ℕ) → Performs both_of result
         (evaluates_in (acting_of acting.now) (λ s. two (evaluated s (shown first.now) (env_of env.now)) (evaluated s (shown second.now) (env_of env.now))))
         (point (state tree.now) counted steps.old) (point (state tree.now) counted steps.new) }
     ensures plain { IfOk result (λ xs. IsPlainAnswer (answer_of xs.second)) }
@@ -177,7 +177,7 @@ pub fn three_parts<L: Ledger>(
 ) -> Result<ThreeParts, RunError>
     requires constants { HasPlainConstants (shown third.now) }
     requires bound { IsPlainEnv (env_of env.now) }
-    ensures did { (counted : ℕ) → Acts three_of result
+    ensures did { (counted : ℕ) → Performs three_of result
         (evaluates_in (acting_of acting.now) (λ s. three (evaluated s (shown first.now) (env_of env.now)) (evaluated s (shown second.now) (env_of env.now)) (evaluated s (shown third.now) (env_of env.now))))
         (point (state tree.now) counted steps.old) (point (state tree.now) counted steps.new) }
     ensures plain { IfOk result (λ xs. IsPlainAnswer (answer_of xs.third)) }
@@ -212,7 +212,7 @@ pub fn call_parts<L: Ledger>(
     requires on { HasPlainConstants (shown on.now) }
     requires args { HavePlainConstants (expressions (map shown args.now)) }
     requires bound { IsPlainEnv (env_of env.now) }
-    ensures did { (counted : ℕ) → Acts call_of result
+    ensures did { (counted : ℕ) → Performs call_of result
         (evaluates_in (acting_of acting.now) (λ s. two (evaluated s (shown on.now) (env_of env.now)) (all_evaluated s (expressions (map shown args.now)) (env_of env.now))))
         (point (state tree.now) counted steps.old) (point (state tree.now) counted steps.new) }
     ensures plain { IfOk result (λ parts. ArePlainAnswers (answers_of parts.args)) }

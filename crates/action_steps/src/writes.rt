@@ -5,7 +5,7 @@ ghost use Rattle.expr_syntax.specs.Syntax as syntax;
 ghost use Rattle.live_tree.specs.Contents.{state};
 ghost use Rattle.plain_answers.specs.Plainness.{IsPlainEnv, HasPlainConstants};
 ghost use Rattle.action_core.specs.Running.{ran};
-ghost use Rattle.action_steps.specs.Doing.{Acts, point};
+ghost use Rattle.action_steps.specs.Doing.{Performs, point};
 ghost use Rattle.action_steps.specs.Acting.{acting_of, env_of};
 
 use crate::acting::{Acting, node_in};
@@ -35,7 +35,7 @@ pub fn set<L: Ledger>(
     requires on { HasPlainConstants (shown on.now) }
     requires to { HasPlainConstants (shown to.now) }
     requires bound { IsPlainEnv (env_of env.now) }
-    ensures { (counted : ℕ) → Acts (λ _. env_of env.now) result (ran (acting_of acting.now) (syntax.set (shown on.now) name.now (shown to.now)) (env_of env.now))
+    ensures { (counted : ℕ) → Performs (λ _. env_of env.now) result (ran (acting_of acting.now) (syntax.set (shown on.now) name.now (shown to.now)) (env_of env.now))
         (point (state tree.old) counted steps.old) (point (state tree.new) counted steps.new) }
 {
     let parts = two_parts(acting, on, to, env, &*tree, steps)?;
@@ -58,7 +58,7 @@ pub fn put<L: Ledger>(
     requires key { HasPlainConstants (shown key.now) }
     requires to { HasPlainConstants (shown to.now) }
     requires bound { IsPlainEnv (env_of env.now) }
-    ensures { (counted : ℕ) → Acts (λ _. env_of env.now) result (ran (acting_of acting.now) (syntax.put (shown on.now) (shown key.now) (shown to.now)) (env_of env.now))
+    ensures { (counted : ℕ) → Performs (λ _. env_of env.now) result (ran (acting_of acting.now) (syntax.put (shown on.now) (shown key.now) (shown to.now)) (env_of env.now))
         (point (state tree.old) counted steps.old) (point (state tree.new) counted steps.new) }
 {
     let parts = three_parts(acting, on, key, to, env, &*tree, steps)?;
@@ -80,7 +80,7 @@ pub fn push<L: Ledger>(
     requires on { HasPlainConstants (shown on.now) }
     requires to { HasPlainConstants (shown to.now) }
     requires bound { IsPlainEnv (env_of env.now) }
-    ensures { (counted : ℕ) → Acts (λ _. env_of env.now) result (ran (acting_of acting.now) (syntax.push (shown on.now) (shown to.now)) (env_of env.now))
+    ensures { (counted : ℕ) → Performs (λ _. env_of env.now) result (ran (acting_of acting.now) (syntax.push (shown on.now) (shown to.now)) (env_of env.now))
         (point (state tree.old) counted steps.old) (point (state tree.new) counted steps.new) }
 {
     let parts = two_parts(acting, on, to, env, &*tree, steps)?;
@@ -104,7 +104,7 @@ pub fn insert<L: Ledger>(
     requires index { HasPlainConstants (shown index.now) }
     requires to { HasPlainConstants (shown to.now) }
     requires bound { IsPlainEnv (env_of env.now) }
-    ensures { (counted : ℕ) → Acts (λ _. env_of env.now) result (ran (acting_of acting.now) (syntax.insert (shown on.now) (shown index.now) (shown to.now)) (env_of env.now))
+    ensures { (counted : ℕ) → Performs (λ _. env_of env.now) result (ran (acting_of acting.now) (syntax.insert (shown on.now) (shown index.now) (shown to.now)) (env_of env.now))
         (point (state tree.old) counted steps.old) (point (state tree.new) counted steps.new) }
 {
     let parts = three_parts(acting, on, index, to, env, &*tree, steps)?;
@@ -128,7 +128,7 @@ pub fn replace<L: Ledger>(
     requires index { HasPlainConstants (shown index.now) }
     requires to { HasPlainConstants (shown to.now) }
     requires bound { IsPlainEnv (env_of env.now) }
-    ensures { (counted : ℕ) → Acts (λ _. env_of env.now) result (ran (acting_of acting.now) (syntax.replace (shown on.now) (shown index.now) (shown to.now)) (env_of env.now))
+    ensures { (counted : ℕ) → Performs (λ _. env_of env.now) result (ran (acting_of acting.now) (syntax.replace (shown on.now) (shown index.now) (shown to.now)) (env_of env.now))
         (point (state tree.old) counted steps.old) (point (state tree.new) counted steps.new) }
 {
     let parts = three_parts(acting, on, index, to, env, &*tree, steps)?;
@@ -150,7 +150,7 @@ pub fn drop<L: Ledger>(
     requires on { HasPlainConstants (shown on.now) }
     requires key { HasPlainConstants (shown key.now) }
     requires bound { IsPlainEnv (env_of env.now) }
-    ensures { (counted : ℕ) → Acts (λ _. env_of env.now) result (ran (acting_of acting.now) (syntax.drop (shown on.now) (shown key.now)) (env_of env.now))
+    ensures { (counted : ℕ) → Performs (λ _. env_of env.now) result (ran (acting_of acting.now) (syntax.drop (shown on.now) (shown key.now)) (env_of env.now))
         (point (state tree.old) counted steps.old) (point (state tree.new) counted steps.new) }
 {
     let parts = two_parts(acting, on, key, env, &*tree, steps)?;
@@ -169,7 +169,7 @@ pub fn clear<L: Ledger>(
 ) -> Result<(), RunError>
     requires on { HasPlainConstants (shown on.now) }
     requires bound { IsPlainEnv (env_of env.now) }
-    ensures { (counted : ℕ) → Acts (λ _. env_of env.now) result (ran (acting_of acting.now) (syntax.clear (shown on.now)) (env_of env.now))
+    ensures { (counted : ℕ) → Performs (λ _. env_of env.now) result (ran (acting_of acting.now) (syntax.clear (shown on.now)) (env_of env.now))
         (point (state tree.old) counted steps.old) (point (state tree.new) counted steps.new) }
 {
     let x = value(acting, on, env, &*tree, steps)?;
@@ -192,7 +192,7 @@ pub fn apply<L: Ledger>(
     requires on { HasPlainConstants (shown on.now) }
     requires to { HasPlainConstants (shown to.now) }
     requires bound { IsPlainEnv (env_of env.now) }
-    ensures { (counted : ℕ) → Acts (λ _. env_of env.now) result (ran (acting_of acting.now) (syntax.apply (shown on.now) (shown to.now)) (env_of env.now))
+    ensures { (counted : ℕ) → Performs (λ _. env_of env.now) result (ran (acting_of acting.now) (syntax.apply (shown on.now) (shown to.now)) (env_of env.now))
         (point (state tree.old) counted steps.old) (point (state tree.new) counted steps.new) }
 {
     let parts = two_parts(acting, on, to, env, &*tree, steps)?;
