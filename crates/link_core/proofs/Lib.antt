@@ -4,3 +4,4 @@ pub mod Writing
 pub mod Exchanging
 pub mod Turning
 pub mod Serving
+pub mod Leading

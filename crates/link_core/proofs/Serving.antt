@@ -120,9 +120,9 @@ module _ {S : Type 0} (replies : Replies S) (course : Course S) (held : List ℕ
     nothing_written = subst (λ (ws : List ℕ). BothTold (Exchanges x.came ws) course.links.before course.links.after) (sym (append-nil (all_written x.turns))) x.links
 
     -- a read failed
-    pub read_failed : (after : Option Links) → after ≡ course.links.after → IsServed replies (onward course course.after after) Fault
-    read_failed after same =
-        ends_here Fault (record { bytes = []; state = course.after }) after (inl silent)
+    pub read_failed : (after : Option Links) → after ≡ course.links.after → Arrives held partial → IsServed replies (onward course course.after after) Fault
+    read_failed after same arrives =
+        ends_here Fault (record { bytes = []; state = course.after }) after (inl (silent, arrives))
         (subst (λ (o : Option Links). BothTold (Exchanges x.came (all_written x.turns ++ [])) course.links.before o) (sym same) nothing_written)
 
     -- the input ended

@@ -1,5 +1,5 @@
 -- What becomes of a link whose input is whole requests.
-use Rattle.std.specs.Prelude.{◌≡◌, ℕ, ◌+◌, ◌≤◌, ◌⊎◌, List, [], ◌∷◌, ◌++◌, length, false, ⊤}
+use Rattle.std.specs.Prelude.{◌≡◌, ℕ, ◌+◌, ◌≤◌, ◌⊎◌, List, [], ◌∷◌, ◌++◌, length, true, false, ⊤}
 use Rattle.http_front.specs.Arrival.{whole, Arrives}
 use Rattle.http_front.specs.Reply.{Reply, printed}
 use Rattle.http_front.specs.Request.{Request}
@@ -64,3 +64,25 @@ LinkCompletes replies =
     ⊎ (EndsWell end
     × AnswersAll replies (record { state = course.before; count = 0 }) requests
     (record { written = all_written served.turns ++ served.tail; state = course.after }))
+
+-- a request as it is asked: as it came, but that it may close the link
+abbrev pub IsAsked : Request → Request → Type 0
+IsAsked came request = (request ≡ came) ⊎ (request ≡ record came { close = true })
+
+-- the bytes begin with these requests, one after another, each as it is asked
+abbrev pub BeginsWithRequests : List ℕ → List Request → Type 0
+BeginsWithRequests bytes [] = ⊤
+BeginsWithRequests bytes (request ∷ requests) =
+    (came : Request) × (rest : List ℕ) × Arrives bytes (whole came rest) × IsAsked came request × BeginsWithRequests rest requests
+
+-- these requests, one after another, each by a reply that it may get, lead from a state to the last
+abbrev pub Leads : {S : Type 0} → Replies S → S → List Request → S → Type 0
+Leads replies state [] last = last ≡ state
+Leads replies state (request ∷ requests) last =
+    (next : _) × ((reply : Reply) × replies state request reply next) × Leads replies next requests last
+
+-- However a link ends, all that became of the state came of requests that its bytes begin with.
+abbrev pub LinkLeads : {S : Type 0} → Replies S → Type 0
+LinkLeads replies =
+    (course : Course _) (end : LinkEnd) (served : IsServed replies course end)
+    → (requests : List Request) × BeginsWithRequests served.came requests × Leads replies course.before requests course.after

@@ -113,14 +113,15 @@ pub record IsCut {S : Type 0} (due : Due S) (tail : Tail S) : Type 0 where
   pub lacks : 0 < length unwritten
   pub state : tail.state ≡ due.state
 
--- how a link ends at a point
+-- How a link ends at a point. A fault comes while the next request has come in part or not at all, or while what was due was being written.
 abbrev pub Ends : {S : Type 0} → Replies S → LinkEnd → Point S → Tail S → Type 0
 Ends replies End point tail = (point.stand.bytes ≡ []) × IsSilent point tail
 Ends replies Inside point tail = (0 < length point.stand.bytes) × Arrives point.stand.bytes partial × IsSilent point tail
 Ends replies Closed point tail =
     (due : Due _) × (OwesReply replies point true due ⊎ OwesRefusal point due) × IsWhole due tail
 Ends replies Memory point tail = (due : Due _) × OwesMemory point due × IsWhole due tail
-Ends replies Fault point tail = IsSilent point tail ⊎ ((due : Due _) × Owes replies point due × IsCut due tail)
+Ends replies Fault point tail =
+    (IsSilent point tail × Arrives point.stand.bytes partial) ⊎ ((due : Due _) × Owes replies point due × IsCut due tail)
 
 -- the link brought all its bytes where it ended by itself
 abbrev pub ExchangesTo : LinkEnd → List ℕ → List ℕ → Links → Links → Type 0

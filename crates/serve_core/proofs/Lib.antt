@@ -1,3 +1,4 @@
 pub mod Causing
 pub mod Taking
 pub mod Finishing
+pub mod Leading

@@ -96,6 +96,7 @@ pub record FailsToAttach {S : Type 0} (serving : Serving S) (end : ServeEnd) : T
   pub ends : end ≡ Fault
   pub same : serving.after.state ≡ serving.before.state
   pub asks : AsksToAttach (port_of serving.plan) serving.before.door serving.after.door
+  pub attached : serving.after.door.is_attached ≡ serving.before.door.is_attached
   pub failed : DoorHasFailed serving.before.door serving.after.door
 
 -- one of the two

@@ -52,7 +52,7 @@ returns-in-Ok-false-clause-serves g c =
 pub returns-in-Err-clause-serves : goal.returns-in-Err-clause-serves
 returns-in-Err-clause-serves g c =
     read_failed g.A.Handler.replies _ c.loop-request.room (1000000 - c.loop-request.left) c.loop-request.invariant.serving (omega arith) _
-    c.in-Err.ensures.err
+    c.in-Err.ensures.err (rw c.held.ensures at c.in-NeedMore.ensures.arrives)
 
 pub returns-in-Bad-clause-serves : goal.returns-in-Bad-clause-serves
 returns-in-Bad-clause-serves g c =
