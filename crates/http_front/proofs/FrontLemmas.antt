@@ -75,7 +75,7 @@ given-le [] m e = (let zero : 0 ≡ m = cc in omega (arith, zero))
 given-le (v ∷ []) m e = bounded-le (digits_value 10 v) m (taken (is_length_text v) (bounded_length (digits_value 10 v)) 400 m e)
 given-le (v ∷ w ∷ values) m e = cc
 
-body-le : (fields : List NamedValue) (m : ℕ) → body_length fields ≡ Ok m → m ≤ 262144
+pub body-le : (fields : List NamedValue) (m : ℕ) → body_length fields ≡ Ok m → m ≤ 262144
 body-le fields m e =
     given-le (values_of (codes "content-length") fields) m
     (taken (lacks (codes "transfer-encoding") fields) (given_length (values_of (codes "content-length") fields)) 501 m e)

@@ -1,7 +1,9 @@
 -- All that becomes of the state comes of the requests of a link.
 use Rattle.std.proofs.Common.{◌≡◌, ℕ, ◌+◌, ◌⊎◌, inl, inr, Bool, true, false, ◌||◌, ◌==◌, List, [], ◌∷◌, ◌++◌, length, refl, sym, ap, subst}
-use Rattle.http_front.specs.Request.{Request}
-use Rattle.link_core.specs.Laws.{IsAsked, BeginsWithRequests, Leads, LinkLeads}
+use Rattle.http_front.specs.Arrival.{whole, Arrives}
+use Rattle.http_front.specs.Request.{Request, fields_of}
+use Rattle.http_front.proofs.FrontLemmas.{body-le}
+use Rattle.link_core.specs.Laws.{IsAsked, BeginsWithRequests, HasShortBody, Leads, LinkLeads}
 use Rattle.link_core.specs.Link.{Replies, Stand, Turn, Turns, asked, Due, Point, OwesReply, Owes, Tail, Ends}
 use Rattle.link_core.specs.declared.end.LinkEnd.{LinkEnd}
 use Rattle.link_core.specs.declared.end.LinkEnd.TheVariants.{End, Closed, Inside, Memory, Fault}
@@ -18,13 +20,17 @@ is_asked count came = elim (or_either came.close (count + 1 == 1000000)) [
   | inr closes ↦ inr (ap (λ (close : Bool). record came { close = close }) closes)
 ]
 
+-- what arrives whole has a short body
+short : (request : Request) (rest bytes : List ℕ) → Arrives bytes (whole request rest) → HasShortBody request
+short request rest bytes arrives = body-le (fields_of arrives.head) (length request.body) arrives.sized
+
 module _ {S : Type 0} (replies : Replies S) where
   -- some requests, and then others
   pub leads_then : (before between after : S) (first others : List Request) → Leads replies before first between → Leads replies between others after
       → Leads replies before (first ++ others) after
   leads_then before between after [] others one other = subst (λ (state : S). Leads replies state others after) one other
   leads_then before between after (request ∷ first) others one other =
-      (one.0, one.1, leads_then one.0 between after first others one.2 other)
+      (one.0, one.1, one.2, leads_then one.0 between after first others one.3 other)
 
   -- requests that the bytes begin with lead from where a link stands to a state
   abbrev LeadsFrom : Stand S → S → Type 0
@@ -40,14 +46,14 @@ module _ {S : Type 0} (replies : Replies S) where
       let rest = by_turns done.0 after turns last done.2 leads in (
         turn.request ∷ rest.0,
         (turn.request, done.0.bytes, done.1.arrives, inl refl, rest.1),
-        (done.0.state, (turn.reply, done.1.gets), rest.2),
+        (done.0.state, short turn.request done.0.bytes before.bytes done.1.arrives, (turn.reply, done.1.gets), rest.2),
       )
 
   by_reply : (point : Point S) (closes : Bool) (due : Due S) → OwesReply replies point closes due → LeadsFrom point.stand due.state
   by_reply point closes due owes = (
     asked point.count owes.came ∷ [],
     (owes.came, owes.rest, owes.arrives, is_asked point.count owes.came, tt),
-    (due.state, (owes.reply, owes.gets), refl),
+    (due.state, short owes.came owes.rest point.stand.bytes owes.arrives, (owes.reply, owes.gets), refl),
   )
 
   by_due : (point : Point S) (due : Due S) → Owes replies point due → LeadsFrom point.stand due.state

@@ -75,11 +75,15 @@ BeginsWithRequests bytes [] = ⊤
 BeginsWithRequests bytes (request ∷ requests) =
     (came : Request) × (rest : List ℕ) × Arrives bytes (whole came rest) × IsAsked came request × BeginsWithRequests rest requests
 
--- these requests, one after another, each by a reply that it may get, lead from a state to the last
+-- a body has at most 262,144 bytes
+abbrev pub HasShortBody : Request → Type 0
+HasShortBody request = length request.body ≤ 262144
+
+-- these requests, whose bodies are short, lead from a state to the last, one after another, each by a reply that it may get
 abbrev pub Leads : {S : Type 0} → Replies S → S → List Request → S → Type 0
 Leads replies state [] last = last ≡ state
 Leads replies state (request ∷ requests) last =
-    (next : _) × ((reply : Reply) × replies state request reply next) × Leads replies next requests last
+    (next : _) × HasShortBody request × ((reply : Reply) × replies state request reply next) × Leads replies next requests last
 
 -- However a link ends, all that became of the state came of requests that its bytes begin with.
 abbrev pub LinkLeads : {S : Type 0} → Replies S → Type 0
