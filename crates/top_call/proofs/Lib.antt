@@ -1,4 +1,5 @@
 pub mod Alike
+pub mod AsRun
 pub mod Completes
 pub mod Ends
 pub mod Grammar

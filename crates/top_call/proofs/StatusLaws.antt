@@ -32,7 +32,7 @@ abbrev pub until : Run → WorldState → Run
 until r told = record r { world_after = told }
 
 served_after : (r : Run) (told : WorldState) (end : ServeEnd) → IsServed (until r told) end → IsServed r end
-served_after r told end x = record { served = x.served; serves_by = x.serves_by; sound = x.sound; file = x.file; door = x.door }
+served_after r told end x = record { served = x.served; serves_by = x.serves_by; plain = x.plain; file = x.file; door = x.door }
 
 no_some : (c : Option Command) → IsSome c → c ≡ None → ⊥
 no_some None some none = (let e : false ≡ true = some in cc)

@@ -7,10 +7,10 @@ use Rattle.pointer_core.specs.Path.{Path, printed}
 use Rattle.pointer_core.specs.Rule.{schema_rule_name}
 use Rattle.pointer_core.specs.declared.schema_rule.SchemaRule.{SchemaRule}
 use Rattle.snap_json.specs.Loose.{loosely}
-use Rattle.type_core.specs.Sound.{IsSound}
-use Rattle.expr_core.specs.Schema.{Schema}
+use Rattle.expr_core.specs.Schema.{Schema, behaviours_shown}
 use Rattle.schema_read.specs.Schema.{Spells, HasFirst}
 use Rattle.http_front.specs.Request.{Request}
+use Rattle.host_core.specs.Sound.{IsPlainSchema}
 use Rattle.serve_core.specs.Laws.{AreInputs, AreAnswered}
 use Rattle.serve_core.specs.Serving.{Serving, ServesDoor, port_of, most_links}
 use Rattle.serve_core.specs.declared.plan.Plan.{Plan}
@@ -100,11 +100,11 @@ serving_of r served =
       after = record { state = served.last; door = r.door_after };
     }
 
--- the command serves, its file is a schema, which has no fault, and the door was served so by what answers for it
+-- the command serves, its file is a schema, whose types have no fault and whose views and actions have plain constants, and the door was served so by what answers for it
 pub record IsServed (r : Run) (end : ServeEnd) : Type 0 where
   pub served : Served
   pub serves_by : ServesBy r.command served.plan
-  pub sound : IsSound served.schema.types
+  pub plain : IsPlainSchema served.schema.types (behaviours_shown served.schema)
   pub file : IfSchemaFile r (IsFileOf served.schema)
   pub door : ServesDoor replies (serving_of r served) end
 

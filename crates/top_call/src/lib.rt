@@ -15,6 +15,7 @@
 mod answering;
 mod causes;
 mod exit;
+mod hosting;
 mod load;
 mod program;
 mod report;
@@ -23,6 +24,7 @@ mod words;
 
 pub use causes::{answers_what_is_given, statuses_have_causes};
 pub use exit::Exit;
+pub use hosting::served_is_a_run;
 pub use program::host;
 pub use report::report_exit;
 pub use words::Command;
