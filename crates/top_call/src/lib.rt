@@ -22,7 +22,7 @@ mod report;
 mod serve;
 mod words;
 
-pub use causes::{answers_what_is_given, statuses_have_causes};
+pub use causes::{answers_what_is_given, given_files_decide, statuses_have_causes};
 pub use exit::Exit;
 pub use hosting::served_is_a_run;
 pub use program::host;
