@@ -10,10 +10,9 @@ use Rattle.host_core.specs.Host.{docs_of, visit_by}
 use Rattle.host_laws.specs.Runs.{IsShort, Runs}
 use Rattle.link_core.specs.Laws.{Leads}
 use Rattle.serve_core.specs.Laws.{DoorLeads}
-use Rattle.serve_core.specs.declared.plan.ServeEnd.{ServeEnd}
 use Rattle.top_call.specs.Answering.{State, start, replies}
-use Rattle.top_call.specs.Hosting.{docs_after, IsRunTo, ServedIsARun}
-use Rattle.top_call.specs.Run.{Run, serving_of, IsServed}
+use Rattle.top_call.specs.Hosting.{docs_after, ServedIsARun}
+use Rattle.top_call.specs.Run.{serving_of}
 
 -- a body is shorter than the laws of hosts ask
 short-enough : (n : ℕ) → n ≤ 262144 → n < 2 ^ 31

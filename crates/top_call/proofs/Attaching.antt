@@ -1,7 +1,6 @@
 -- Where the door isn't attached in the end, attaching failed.
-use Rattle.std.proofs.Common.{◌≡◌, inl, inr, IsTrue, true, sym, ◌∙◌}
-use Rattle.edge_core.specs.Door.{DoorState}
-use Rattle.serve_core.specs.Serving.{Serving, FailsToAttach, ServesAttached, ServesDoor, most_links}
+use Rattle.std.proofs.Common.{inl, inr, IsTrue, ◌∙◌}
+use Rattle.serve_core.specs.Serving.{Serving, ServesAttached, ServesDoor, most_links}
 use Rattle.serve_core.specs.declared.plan.ServeEnd.{ServeEnd}
 use Rattle.serve_core.specs.declared.plan.ServeEnd.TheVariants as end
 use Rattle.serve_core.proofs.Causing.{keeps_links}

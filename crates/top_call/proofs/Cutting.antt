@@ -1,14 +1,13 @@
 -- Where serving ends inside a request, the link's input is requests and a beginning of one more.
-use Rattle.std.proofs.Common.{◌≡◌, ℕ, inl, inr, zero, suc, List, [], ◌∷◌, ◌++◌, append-nil, Option, Some, None, sym, ◌∙◌, ap, subst}
+use Rattle.std.proofs.Common.{◌≡◌, ℕ, inl, inr, zero, suc, List, ◌∷◌, ◌++◌, append-nil, Option, Some, None, sym, ◌∙◌, ap, subst}
 use Rattle.std.specs.Prelude.{IfSome}
-use Rattle.edge_core.specs.Door.{Link, Links, BothTold, Accepts, left_of}
+use Rattle.edge_core.specs.Door.{Links, BothTold, Accepts, left_of}
 use Rattle.link_core.specs.Exchange.{ExchangesAll}
 use Rattle.link_core.specs.declared.end.LinkEnd.{LinkEnd}
 use Rattle.link_core.specs.declared.end.LinkEnd.TheVariants as link
-use Rattle.serve_core.specs.Serving.{Moment, Serving, TakesLink, NextLink, ServesLinks, ServesAttached, ServesDoor, most_links, stopped_by}
+use Rattle.serve_core.specs.Serving.{Serving, TakesLink, NextLink, ServesLinks, ServesAttached, ServesDoor, most_links, stopped_by}
 use Rattle.serve_core.specs.declared.plan.Plan.{Plan}
 use Rattle.serve_core.specs.declared.plan.Plan.TheVariants.{Streams, Port}
-use Rattle.serve_core.specs.declared.plan.ServeEnd.{ServeEnd}
 use Rattle.serve_core.specs.declared.plan.ServeEnd.TheVariants as end
 use Rattle.top_call.specs.Answering.{State, replies}
 use Rattle.top_call.specs.Run.{Run, serving_of, IsServed, IsNext, EndsInside}

@@ -1,5 +1,5 @@
 -- Which codes a run comes to whose file is no schema, is too long, or isn't there.
-use Rattle.std.proofs.Common.{◌≡◌, ℕ, ◌⊎◌, inl, inr, List, Option, Some, None, refl, sym, ◌∙◌, subst, arith}
+use Rattle.std.proofs.Common.{◌≡◌, ℕ, ◌⊎◌, inl, inr, List, Some, None, refl, sym, ◌∙◌, subst, arith}
 use Rattle.std.specs.Prelude.{IsSomeAnd}
 use Rattle.edge_core.specs.World.{WorldHasFailed, file_of}
 use Rattle.top_call.specs.declared.exit.Exit.{Exit}

@@ -102,7 +102,8 @@ serving_of r served =
       after = record { state = served.last; door = r.door_after };
     }
 
--- the command serves, its file is a schema, whose types have no fault and whose views and actions have plain constants, and the door was served so by what answers for it
+-- The command serves, its file is a schema, whose types have no fault and whose views and actions have plain constants, and the
+-- door was served so by what answers for it.
 pub record IsServed (r : Run) (end : ServeEnd) : Type 0 where
   pub served : Served
   pub serves_by : ServesBy r.command served.plan
@@ -122,7 +123,8 @@ pub record FailedToAttach (r : Run) : Type 0 where
 abbrev pub IsNext : List ℕ → List (List ℕ) → Type 0
 IsNext came coming = (others : List (List ℕ)) × (coming ≡ came ∷ others)
 
--- the link brought requests, each of which got its reply, and behind them a beginning of one more; that was all that it had, where links are told
+-- The link brought requests, each of which got its reply, and behind them a beginning of one more. Where links are told, that
+-- was all that it had.
 pub record EndsInside (r : Run) : Type 0 where
   pub served : IsServed r end.Inside
   pub came : List ℕ
