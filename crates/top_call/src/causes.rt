@@ -36,12 +36,12 @@ pub fn statuses_have_causes()
         → status ≡ 0 → IsServed r end.Done }
     ensures inside { (r : Run) (status : ℕ) → Ends r status
         → status ≡ 9 → IsRun r.command × IsServed r end.Inside }
-    // 9 only where the input ends inside a request, behind requests that got their replies.
-    ensures cut_inside { (r : Run) (status : ℕ) → Ends r status → status ≡ 9 → EndsInside r }
     ensures attached { (r : Run) (status : ℕ) → Ends r status → IsServing r.command
         → (status ≡ 0) ⊎ (status ≡ 9) → IsTrue r.door_after.is_attached }
     ensures silent { (r : Run) (status : ℕ) → Ends r status → IsServing r.command → status ≡ 0
         → (r.world_after.err ≡ r.world_before.err) × (r.world_after.out ≡ r.world_before.out) }
+    // 9 only where the input ends inside a request, behind requests that got their replies.
+    ensures cut_inside { (r : Run) (status : ℕ) → Ends r status → status ≡ 9 → EndsInside r }
     // 6 only where the door's count rose.
     ensures door_failed { (r : Run) (status : ℕ) → Ends r status
         → status ≡ 6 → DoorHasFailed r.door_before r.door_after × IsServed r end.Fault }
@@ -80,7 +80,7 @@ pub fn answers_what_is_given()
     file_is_one_schema();
 }
 
-/// What a run comes to that can't go by its file: the file alone decides, for each command alike.
+/// What comes of a run whose schema file is no schema, is too long or isn't there, whichever command it is.
 pub fn given_files_decide()
     // A file that is short enough and no schema: 4, or memory ran out. `refused` says what is told then.
     ensures unfit { (r : Run) (status : ℕ) → Ends r status
