@@ -1,23 +1,24 @@
 //! The arguments of an action, each by the type of its parameter.
 ghost use Rattle.std.specs.Prelude.{◌≡◌, ℕ, Some, IfOk, MatchOption, map, option_map};
 ghost use Rattle.snap_core.specs.Value.{IsPlain};
-ghost use Rattle.snap_core.specs.View.{view};
+ghost use Rattle.snap_core.specs.View.{view, items_view};
 ghost use Rattle.type_table.specs.Names.{named_by, named_step};
 ghost use Rattle.type_table.specs.Table.{shape_at};
 ghost use Rattle.answer_ops.specs.View.{answer_of, answers_of};
 ghost use Rattle.live_tree.specs.Contents.{state};
+ghost use Rattle.answer_writing.specs.Taking.{plains_in};
 ghost use Rattle.plain_answers.specs.Plainness.{IsPlainAnswer, ArePlainAnswers};
 ghost use Rattle.action_core.specs.Beginning as begun;
 ghost use Rattle.action_steps.specs.Beginning.{argument_as, bound_as};
 
-use crate::plainly::plain_items;
 use answer_ops::Value;
+use answer_writing::{are_plain, copy_plains};
 use edit_core::Kind;
 use list_core::Parts;
 use live_tree::Tree;
 use model_syntax::Param;
 use node_core::same_kind;
-use snap_core::{Ident, ModelNo, Name, NodeNo, Snap, TypeNo};
+use snap_core::{Ident, Items, ModelNo, Name, NodeNo, Snap, TypeNo};
 use std::alloc::{AllocError, Global};
 use type_core::{MakeError, Shape, Types, make};
 
@@ -85,6 +86,16 @@ fn argument_of(
             None => Ok(None),
         },
     }
+}
+
+/// The plain values that several answers are; none where a node stands in one of them.
+fn plain_items(alloc: Global, values: &[Value]) -> Result<Option<Items>, AllocError>
+    ensures { IfOk result (λ items. option_map items_view items ≡ plains_in (answers_of values.now)) }
+{
+    if !are_plain(values) {
+        return Ok(None);
+    }
+    Ok(Some(copy_plains(alloc, values)?))
 }
 
 /// A node at a reference: one of its model, or a dead one. Elsewhere a node is none.

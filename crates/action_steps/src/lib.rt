@@ -10,7 +10,6 @@ mod clearing;
 mod layers;
 mod naming;
 mod parts;
-mod plainly;
 mod writes;
 mod writing;
 

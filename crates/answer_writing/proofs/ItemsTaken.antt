@@ -55,7 +55,7 @@ pub fault-next : (by : Taking) (xs : List coded.Value) (t : ℕ) (held : List La
     → fault_among by (answers_of (drop (i + 1) xs)) t (drop (i + 1) held) ≡ fault_among by (answers_of (drop i xs)) t (drop i held)
 fault-next by xs t held i x within here aim at o is none =
     let fine : fault_in by (answer_of x) (item_aim (answer_of x) t (drop i held)) ≡ None = ap (fault_in by (answer_of x)) at ∙ sym is ∙ no-fault o none in
-    sym (ap (λ (ys : answers.Answers). fault_among by ys t (drop i held)) (left xs i x within here)
+    sym (ap (λ (ys : answers.AnswerList). fault_among by ys t (drop i held)) (left xs i x within here)
     ∙ ap (λ (f : Option Rule). or_later f (fault_among by (answers_of (drop (i + 1) xs)) t (drop 1 (drop i held)))) fine
     ∙ ap (fault_among by (answers_of (drop (i + 1) xs)) t) (drop-next i held))
 
@@ -80,7 +80,7 @@ module _ (by : Taking) (t : ℕ) (xs : List coded.Value) (held : List Labelled) 
 
     next : items_before made (part_made one rest) ≡ whole
     next =
-        let After : answers.Answers → Type 0 = λ ys. items_before made (items_made i t (answers_made by ys (drop i held))) ≡ whole in
+        let After : answers.AnswerList → Type 0 = λ ys. items_before made (items_made i t (answers_made by ys (drop i held))) ≡ whole in
         let At : Aim → Type 0 = λ a. items_before made (part_made (under (decimal i) (answer_made by (answer_of x) a)) (items_made (i + 1) t (answers_made by (answers_of (drop (i + 1) xs)) (drop 1 (drop i held))))) ≡ whole in
         let Held : List Labelled → Type 0 = λ hs. items_before made (part_made one (items_made (i + 1) t (answers_made by (answers_of (drop (i + 1) xs)) hs))) ≡ whole in
         subst Held (drop-next i held) (subst At at (subst After (left xs i x within here) so_far))

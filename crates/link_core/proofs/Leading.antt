@@ -3,7 +3,7 @@ use Rattle.std.proofs.Common.{◌≡◌, ℕ, ◌+◌, ◌⊎◌, inl, inr, Bool
 use Rattle.http_front.specs.Arrival.{whole, Arrives}
 use Rattle.http_front.specs.Request.{Request, fields_of}
 use Rattle.http_front.proofs.FrontLemmas.{body-le}
-use Rattle.link_core.specs.Laws.{IsAsked, BeginsWithRequests, HasShortBody, Leads, LinkLeads}
+use Rattle.link_core.specs.Laws.{IsAsked, BeginsWithRequests, HasShortBody, RequestsLead, LinkLeads}
 use Rattle.link_core.specs.Link.{Replies, Stand, Turn, Turns, asked, Due, Point, OwesReply, Owes, Tail, Ends}
 use Rattle.link_core.specs.declared.end.LinkEnd.{LinkEnd}
 use Rattle.link_core.specs.declared.end.LinkEnd.TheVariants.{End, Closed, Inside, Memory, Fault}
@@ -26,16 +26,16 @@ short request rest bytes arrives = body-le (fields_of arrives.head) (length requ
 
 module _ {S : Type 0} (replies : Replies S) where
   -- some requests, and then others
-  pub leads_then : (before between after : S) (first others : List Request) → Leads replies before first between → Leads replies between others after
-      → Leads replies before (first ++ others) after
-  leads_then before between after [] others one other = subst (λ (state : S). Leads replies state others after) one other
+  pub leads_then : (before between after : S) (first others : List Request) → RequestsLead replies before first between → RequestsLead replies between others after
+      → RequestsLead replies before (first ++ others) after
+  leads_then before between after [] others one other = subst (λ (state : S). RequestsLead replies state others after) one other
   leads_then before between after (request ∷ first) others one other =
       (one.0, one.1, one.2, leads_then one.0 between after first others one.3 other)
 
   -- requests that the bytes begin with lead from where a link stands to a state
   abbrev LeadsFrom : Stand S → S → Type 0
   LeadsFrom stand last =
-      (requests : List Request) × BeginsWithRequests stand.bytes requests × Leads replies stand.state requests last
+      (requests : List Request) × BeginsWithRequests stand.bytes requests × RequestsLead replies stand.state requests last
 
   by_none : (stand : Stand S) (last : S) → last ≡ stand.state → LeadsFrom stand last
   by_none stand last same = ([], tt, same)

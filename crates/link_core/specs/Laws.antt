@@ -80,13 +80,13 @@ abbrev pub HasShortBody : Request → Type 0
 HasShortBody request = length request.body ≤ 262144
 
 -- these requests, whose bodies are short, lead from a state to the last, one after another, each by a reply that it may get
-abbrev pub Leads : {S : Type 0} → Replies S → S → List Request → S → Type 0
-Leads replies state [] last = last ≡ state
-Leads replies state (request ∷ requests) last =
-    (next : _) × HasShortBody request × ((reply : Reply) × replies state request reply next) × Leads replies next requests last
+abbrev pub RequestsLead : {S : Type 0} → Replies S → S → List Request → S → Type 0
+RequestsLead replies state [] last = last ≡ state
+RequestsLead replies state (request ∷ requests) last =
+    (next : _) × HasShortBody request × ((reply : Reply) × replies state request reply next) × RequestsLead replies next requests last
 
 -- However a link ends, all that became of the state came of requests that its bytes begin with.
 abbrev pub LinkLeads : {S : Type 0} → Replies S → Type 0
 LinkLeads replies =
     (course : Course _) (end : LinkEnd) (served : IsServed replies course end)
-    → (requests : List Request) × BeginsWithRequests served.came requests × Leads replies course.before requests course.after
+    → (requests : List Request) × BeginsWithRequests served.came requests × RequestsLead replies course.before requests course.after

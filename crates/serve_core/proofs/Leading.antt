@@ -1,7 +1,7 @@
 -- All that becomes of the state comes of the requests of the links.
 use Rattle.std.proofs.Common.{ℕ, inl, inr, zero, suc, List, [], ◌++◌, Option, ap}
 use Rattle.http_front.specs.Request.{Request}
-use Rattle.link_core.specs.Laws.{Leads, LinkLeads}
+use Rattle.link_core.specs.Laws.{RequestsLead, LinkLeads}
 use Rattle.link_core.specs.Link.{Replies}
 use Rattle.link_core.proofs.Leading.{leads_then}
 use Rattle.serve_core.specs.Laws.{DoorLeads}
@@ -11,7 +11,7 @@ use Rattle.serve_core.specs.declared.plan.ServeEnd.{ServeEnd}
 module _ {S : Type 0} (replies : Replies S) (laws : LinkLeads replies) where
   -- some requests lead from one state to another
   abbrev IsLed : S → S → Type 0
-  IsLed before after = (requests : List Request) × Leads replies before requests after
+  IsLed before after = (requests : List Request) × RequestsLead replies before requests after
 
   next_leads : (serving : Serving S) (outcome : Option ServeEnd) → NextLink replies serving outcome → IsLed serving.before.state serving.after.state
   next_leads serving outcome next = elim next.comes [

@@ -2,7 +2,7 @@
 use Rattle.std.specs.Prelude.{◌≡◌, ℕ, ◌≤◌, ◌⊎◌, List, [], ◌∷◌, ◌++◌, length, map, take, drop, Some, IsTrue, ⊤}
 use Rattle.edge_core.specs.Door.{Link, Links, DoorHasFailed, asked_also}
 use Rattle.http_front.specs.Request.{Request}
-use Rattle.link_core.specs.Laws.{AreRequests, OnlyLastCloses, AnswersAll, Leads}
+use Rattle.link_core.specs.Laws.{AreRequests, OnlyLastCloses, AnswersAll, RequestsLead}
 use Rattle.link_core.specs.Link.{Replies, most_requests}
 use Rattle.serve_core.specs.Serving.{Serving, ServesDoor, most_links, port_of}
 use Rattle.serve_core.specs.declared.plan.Plan.TheVariants.{Streams}
@@ -83,4 +83,4 @@ DoorIsLeft replies = (serving : Serving _) (end : ServeEnd) → ServesDoor repli
 abbrev pub DoorLeads : {S : Type 0} → Replies S → Type 0
 DoorLeads replies =
     (serving : Serving _) (end : ServeEnd) → ServesDoor replies serving end
-    → (requests : List Request) × Leads replies serving.before.state requests serving.after.state
+    → (requests : List Request) × RequestsLead replies serving.before.state requests serving.after.state

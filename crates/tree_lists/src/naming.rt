@@ -9,7 +9,7 @@ ghost use Rattle.tree_lists.specs.Naming.{place_by};
 
 use node_core::{Label, Labelled};
 use patch_core::{Patch, PatchOp};
-use pointer_core::{Pointer, Rule};
+use pointer_core::{Pointer, Rule, Token};
 use std::alloc::Global;
 use tree_core::{Place, TreeError, refuse};
 use tree_reading::{entry_place, index_below, way_along};
