@@ -8,7 +8,7 @@ use Rattle.host_core.specs.Asking.{Answer, Steps}
 use Rattle.host_core.specs.Docs.{Docs}
 use Rattle.host_core.specs.Host.{docs_of, visit_by}
 use Rattle.host_laws.specs.Runs.{IsShort, Runs}
-use Rattle.link_core.specs.Laws.{Leads}
+use Rattle.link_core.specs.Laws.{RequestsLead}
 use Rattle.serve_core.specs.Laws.{DoorLeads}
 use Rattle.top_call.specs.Answering.{State, start, replies}
 use Rattle.top_call.specs.Hosting.{docs_after, ServedIsARun}
@@ -21,7 +21,7 @@ short-enough n few = omega (arith, few)
 abbrev HasShort : Request → Type 0
 HasShort request = IsShort request.body
 
-leads-short : (state : State) (requests : List Request) (last : State) → Leads replies state requests last → All HasShort requests
+leads-short : (state : State) (requests : List Request) (last : State) → RequestsLead replies state requests last → All HasShort requests
 leads-short state [] last leads = All-nil HasShort
 leads-short state (request ∷ requests) last leads =
     All-cons HasShort request requests (short-enough _ leads.1) (leads-short leads.0 requests last leads.3)
@@ -34,7 +34,7 @@ module _ (schema : Schema) where
     leaves : docs_of last ≡ docs_after docs answers
     same : last.schema ≡ schema
 
-  leads-runs : (state : State) (requests : List Request) (last : State) → state.schema ≡ schema → Leads replies state requests last
+  leads-runs : (state : State) (requests : List Request) (last : State) → state.schema ≡ schema → RequestsLead replies state requests last
       → RunsTo (docs_of state) requests last
   leads-runs state [] last same leads =
       record { answers = []; runs = tt; leaves = ap docs_of leads; same = ap (λ (s : State). s.schema) leads ∙ same }
