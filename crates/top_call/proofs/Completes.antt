@@ -30,7 +30,7 @@ pub record Laws : Type 0 where
   pub file_is_one_schema : FileIsOneSchema
 
 -- a fact of the file that is given
-of_file : (files : Files) (name file : List ℕ) (P : List ℕ → Type 0) → FileIsGiven files name file → IfFile files name P → P file
+pub of_file : (files : Files) (name file : List ℕ) (P : List ℕ → Type 0) → FileIsGiven files name file → IfFile files name P → P file
 of_file files name file P given fact =
     let told : IfFile (Some given.all_files) name P = subst (λ fs. IfFile fs name P) given.told fact in
     let found : IsSomeAnd (Some file) P = subst (λ o. IsSomeAnd o P) given.found told in
@@ -53,7 +53,7 @@ module _ (files : Files) (name file : List ℕ) (given : FileIsGiven files name 
       laws.schema_has_no_fault file schema (record { path = faulty.path; rule = rule }) is.spells faulty.first
 
 -- a fact of the file that a command names
-of_named : (r : Run) (command : Command) (P : List ℕ → Type 0) → r.command ≡ Some command → IfSchemaFile r P
+pub of_named : (r : Run) (command : Command) (P : List ℕ → Type 0) → r.command ≡ Some command → IfSchemaFile r P
     → IfFile r.world_before.files (name_in command) P
 of_named r command P named fact =
     let there : IsSomeAnd (Some command) (λ c. IfFile r.world_before.files (name_in c) P) =

@@ -1,5 +1,9 @@
 pub mod Alike
+pub mod AsRun
+pub mod Attaching
 pub mod Completes
+pub mod Cutting
+pub mod Deciding
 pub mod Ends
 pub mod Grammar
 pub mod Rising

@@ -4,8 +4,8 @@ use Rattle.std.specs.Prelude.{IsErrOf}
 use Rattle.edge_core.specs.World.{WorldState, AsksFor}
 use Rattle.edge_core.specs.Door.{DoorState, asked_also}
 use Rattle.edge_core.specs.declared.door.AskedPort.{AskedPort}
-use Rattle.type_core.specs.Sound.{IsSound}
-use Rattle.expr_core.specs.Schema.{Schema}
+use Rattle.expr_core.specs.Schema.{Schema, behaviours_shown}
+use Rattle.host_core.specs.Sound.{IsPlainSchema}
 use Rattle.serve_core.specs.Serving.{port_of}
 use Rattle.serve_core.specs.declared.plan.Plan.{Plan}
 use Rattle.serve_core.specs.declared.plan.ServeEnd.{ServeEnd}
@@ -22,12 +22,12 @@ run_of command w v d e = record { command = Some command; world_before = w; worl
 
 -- what was served by a schema that was loaded
 module _ (command : Command) (w v : WorldState) (d e : DoorState) (schema : Schema) (plan : Plan) (by : plan_of command ≡ Some plan)
-    (file : IfFile w.files (name_in command) (IsFileOf schema)) (sound : IsSound schema.types) where
+    (file : IfFile w.files (name_in command) (IsFileOf schema)) (plain : IsPlainSchema schema.types (behaviours_shown schema)) where
   is_served : (end : ServeEnd) → ServesSchema (record { schema = schema; plan = plan; before = d; after = e }) end → IsServed (run_of command w v d e) end
   is_served end serves = record {
     served = record { plan = plan; schema = schema; last = serves.0 };
     serves_by = by;
-    sound = sound;
+    plain = plain;
     file = file;
     door = serves.1;
   }

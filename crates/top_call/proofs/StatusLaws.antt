@@ -16,10 +16,13 @@ use Rattle.top_call.specs.declared.exit.Exit.TheVariants.{Done, Checked, Usage, 
 use Rattle.top_call.specs.Words.{Command, check, run, serve}
 use Rattle.top_call.specs.Exit.{exit_code, told_err}
 use Rattle.top_call.specs.Report.{Tells}
-use Rattle.top_call.specs.Run.{Run, Ends, Causes, IsRun, IsServing, ServesBy, IsCheck, serving_of, IsServed, IfSchemaFile, IsTooLong, IsSchemaFile, Refuses, SchemaIsGiven, RequestsAreGiven, AreReplied}
+use Rattle.top_call.specs.Run.{Run, Ends, Causes, IsRun, IsServing, ServesBy, IsCheck, serving_of, IsServed, EndsInside, FailedToAttach, IfSchemaFile, IsTooLong, IsSchemaFile, Refuses, NamesFile, NamesNoFile, SchemaIsGiven, RequestsAreGiven, AreReplied}
 use Rattle.top_call.proofs.Rising.{risen-longer}
 use Rattle.top_call.proofs.Ends.{ends-told, ends-code, ends-rises}
+use Rattle.top_call.proofs.Attaching.{failed-to-attach}
 use Rattle.top_call.proofs.Completes.{Laws, checks-all, completes}
+use Rattle.top_call.proofs.Cutting.{ends-inside}
+use Rattle.top_call.proofs.Deciding.{unfit-code, long-code, absent-code}
 
 -- the laws of serving
 pub record ServingLaws : Type 0 where
@@ -32,7 +35,7 @@ abbrev pub until : Run → WorldState → Run
 until r told = record r { world_after = told }
 
 served_after : (r : Run) (told : WorldState) (end : ServeEnd) → IsServed (until r told) end → IsServed r end
-served_after r told end x = record { served = x.served; serves_by = x.serves_by; sound = x.sound; file = x.file; door = x.door }
+served_after r told end x = record { served = x.served; serves_by = x.serves_by; plain = x.plain; file = x.file; door = x.door }
 
 no_some : (c : Option Command) → IsSome c → c ≡ None → ⊥
 no_some None some none = (let e : false ≡ true = some in cc)
@@ -191,6 +194,11 @@ module _ (r : Run) (status : ℕ) (ends : Ends r status) where
         served,
       )
 
+  pub cut_inside-law : ServingLaws → status ≡ 9 → EndsInside r
+  cut_inside-law laws is =
+      let served = (inside-law laws is).1 in
+      ends-inside r served (laws.inside (serving_of r served.served) end.Inside served.door refl)
+
   pub attached-law : ServingLaws → IsServing r.command → (status ≡ 0) ⊎ (status ≡ 9) → IsTrue r.door_after.is_attached
   attached-law laws is either =
       attached_of laws (until r ends.told) ends.exit ends.causes is
@@ -201,6 +209,11 @@ module _ (r : Run) (status : ℕ) (ends : Ends r status) where
       let served : IsServed r end.Fault =
       served_after r ends.told end.Fault (failed_of (until r ends.told) ends.exit ends.causes (code 6 is (λ x. omega (arith, x)))) in
       (laws.fault (serving_of r served.served) end.Fault served.door refl, served)
+
+  pub attach_failed-law : status ≡ 6 → ¬ (IsTrue r.door_after.is_attached) → FailedToAttach r
+  attach_failed-law is loose =
+      failed-to-attach r
+      (served_after r ends.told end.Fault (failed_of (until r ends.told) ends.exit ends.causes (code 6 is (λ x. omega (arith, x))))) loose
 
   pub memory-law : status ≡ 7 → (r.door_after ≡ r.door_before) ⊎ IsServed r end.Memory
   memory-law is = elim (memory_of (until r ends.told) ends.exit ends.causes (code 7 is (λ x. omega (arith, x)))) [
@@ -238,4 +251,31 @@ module _ (r : Run) (status : ℕ) (ends : Ends r status) where
         subst (λ n. (n ≡ 7) ⊎ ((n ≡ 0) × AreReplied r schema requests given)) (sym tells.answers)
         (completes laws r ends.told ends.exit ends.causes schema requests given (λ failed. world (rises-later failed)) door)
     | inr fails ↦ absurd (world (rises-late fails.failed))
+  ]
+
+  pub unfit-law : (file : List ℕ) → NamesFile r file → ¬ (IsTooLong file) → ¬ (IsSchemaFile file)
+      → ¬ (WorldHasFailed r.world_before r.world_after) → (status ≡ 7) ⊎ (status ≡ 4)
+  unfit-law file names short unfit world = elim ends.reports [
+    | inl tells ↦
+        subst (λ n. (n ≡ 7) ⊎ (n ≡ 4)) (sym tells.answers)
+        (unfit-code (until r ends.told) names.command names.named file names.given ends.exit ends.causes short unfit (λ failed. world (rises-later failed)))
+    | inr fails ↦ absurd (world (rises-late fails.failed))
+  ]
+
+  pub too_long-law : (file : List ℕ) → NamesFile r file → IsTooLong file → ¬ (WorldHasFailed r.world_before r.world_after) → (status ≡ 7) ⊎ (status ≡ 3)
+  too_long-law file names long world = elim ends.reports [
+    | inl tells ↦
+        subst (λ n. (n ≡ 7) ⊎ (n ≡ 3)) (sym tells.answers)
+        (long-code (until r ends.told) names.command names.named file names.given ends.exit ends.causes long)
+    | inr fails ↦ absurd (world (rises-late fails.failed))
+  ]
+
+  pub absent-law : NamesNoFile r → (status ≡ 7) ⊎ (((status ≡ 3) ⊎ (status ≡ 10)) × WorldHasFailed r.world_before r.world_after)
+  absent-law names = elim ends.reports [
+    | inl tells ↦
+        elim (absent-code (until r ends.told) names.command names.named names.all_files names.told names.absent ends.exit ends.causes) [
+          | inl memory ↦ inl (tells.answers ∙ memory)
+          | inr unread ↦ inr (inl (tells.answers ∙ unread.0), rises-later unread.1)
+        ]
+    | inr fails ↦ inr (inr fails.answers, rises-late fails.failed)
   ]

@@ -1,5 +1,6 @@
 pub mod Answering
 pub mod Exit
+pub mod Hosting
 pub mod Report
 pub mod Run
 pub mod RunInside

@@ -1,16 +1,18 @@
 -- One run of the program: which outcome has which cause.
-use Rattle.std.specs.Prelude.{◌≡◌, ℕ, ◌<◌, ◌≤◌, ◌⊎◌, List, [], ◌∷◌, ◌++◌, length, take, codes, Option, Some, None, IsSome, IsSomeAnd, ⊤}
+use Rattle.std.specs.Prelude.{◌≡◌, ℕ, ◌<◌, ◌≤◌, ◌⊎◌, List, [], ◌∷◌, ◌++◌, length, take, codes, Option, Some, None, IfSome, IsSome, IsSomeAnd, ⊤}
 use Rattle.edge_core.specs.World.{WorldState, WorldHasFailed, AsksFor, KeepsFiles, Gets, file_of}
-use Rattle.edge_core.specs.Door.{Links, DoorState, asked_also}
+use Rattle.edge_core.specs.Door.{Links, DoorState, DoorHasFailed, AsksToAttach, asked_also}
 use Rattle.edge_core.specs.declared.door.AskedPort.{AskedPort}
 use Rattle.pointer_core.specs.Path.{Path, printed}
 use Rattle.pointer_core.specs.Rule.{schema_rule_name}
 use Rattle.pointer_core.specs.declared.schema_rule.SchemaRule.{SchemaRule}
 use Rattle.snap_json.specs.Loose.{loosely}
-use Rattle.type_core.specs.Sound.{IsSound}
-use Rattle.expr_core.specs.Schema.{Schema}
+use Rattle.expr_core.specs.Schema.{Schema, behaviours_shown}
 use Rattle.schema_read.specs.Schema.{Spells, HasFirst}
+use Rattle.http_front.specs.Arrival.{partial, Arrives}
 use Rattle.http_front.specs.Request.{Request}
+use Rattle.host_core.specs.Sound.{IsPlainSchema}
+use Rattle.link_core.specs.Link.{Stand, Turn, Turns}
 use Rattle.serve_core.specs.Laws.{AreInputs, AreAnswered}
 use Rattle.serve_core.specs.Serving.{Serving, ServesDoor, port_of, most_links}
 use Rattle.serve_core.specs.declared.plan.Plan.{Plan}
@@ -100,13 +102,38 @@ serving_of r served =
       after = record { state = served.last; door = r.door_after };
     }
 
--- the command serves, its file is a schema, which has no fault, and the door was served so by what answers for it
+-- The command serves, its file is a schema, whose types have no fault and whose views and actions have plain constants, and the
+-- door was served so by what answers for it.
 pub record IsServed (r : Run) (end : ServeEnd) : Type 0 where
   pub served : Served
   pub serves_by : ServesBy r.command served.plan
-  pub sound : IsSound served.schema.types
+  pub plain : IsPlainSchema served.schema.types (behaviours_shown served.schema)
   pub file : IfSchemaFile r (IsFileOf served.schema)
   pub door : ServesDoor replies (serving_of r served) end
+
+-- attaching where the plan says was asked for and failed, so that no link of the door was touched and no request answered
+pub record FailedToAttach (r : Run) : Type 0 where
+  pub served : IsServed r end.Fault
+  pub asks : AsksToAttach (port_of served.served.plan) r.door_before r.door_after
+  pub attached : r.door_after.is_attached ≡ r.door_before.is_attached
+  pub failed : DoorHasFailed r.door_before r.door_after
+  pub unanswered : served.served.last ≡ start served.served.schema
+
+-- those bytes are all that the link brings which comes next
+abbrev pub IsNext : List ℕ → List (List ℕ) → Type 0
+IsNext came coming = (others : List (List ℕ)) × (coming ≡ came ∷ others)
+
+-- The link brought requests, each of which got its reply, and behind them a beginning of one more. Where links are told, that
+-- was all that it had.
+pub record EndsInside (r : Run) : Type 0 where
+  pub served : IsServed r end.Inside
+  pub came : List ℕ
+  pub turns : List Turn
+  pub between : Stand State
+  pub answered : Turns replies (record { state = start served.served.schema; bytes = came }) turns between
+  pub some : 0 < length between.bytes
+  pub begun : Arrives between.bytes partial
+  pub all : IfSome r.door_before.links (λ links. IsNext came links.coming)
 
 -- each exit's cause
 abbrev pub Causes : Run → Exit → Type 0
@@ -172,6 +199,20 @@ pub record FileIsGiven (files : Files) (name file : List ℕ) : Type 0 where
   pub all_files : List (List ℕ × List ℕ)
   pub told : files ≡ Some all_files
   pub found : file_of all_files name ≡ Some file
+
+-- the command names this file, which is given
+pub record NamesFile (r : Run) (file : List ℕ) : Type 0 where
+  pub command : Command
+  pub named : r.command ≡ Some command
+  pub given : FileIsGiven r.world_before.files (name_in command) file
+
+-- files are told, and the command names none of them
+pub record NamesNoFile (r : Run) : Type 0 where
+  pub command : Command
+  pub named : r.command ≡ Some command
+  pub all_files : List (List ℕ × List ℕ)
+  pub told : r.world_before.files ≡ Some all_files
+  pub absent : file_of all_files (name_in command) ≡ None
 
 -- the command is check, and its file is given and is a schema
 pub record SchemaIsGiven (r : Run) : Type 0 where

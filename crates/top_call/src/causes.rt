@@ -7,7 +7,7 @@ ghost use Rattle.edge_core.specs.Door.{DoorHasFailed};
 ghost use Rattle.serve_core.specs.declared.plan.ServeEnd.TheVariants as end;
 ghost use Rattle.top_call.specs.declared.exit.Exit as declared;
 ghost use Rattle.top_call.specs.Report.{Tells};
-ghost use Rattle.top_call.specs.Run.{Run, Ends, IsRun, IsServing, IsCheck, IfSchemaFile, IsTooLong, IsSchemaFile, IsServed, Refuses, SchemaIsGiven, RequestsAreGiven, AreReplied};
+ghost use Rattle.top_call.specs.Run.{Run, Ends, IsRun, IsServing, IsCheck, IfSchemaFile, IsTooLong, IsSchemaFile, IsServed, EndsInside, FailedToAttach, Refuses, NamesFile, NamesNoFile, SchemaIsGiven, RequestsAreGiven, AreReplied};
 
 use crate::answering::Answerer;
 use schema_read::{file_is_one_schema, schema_has_no_fault};
@@ -40,9 +40,14 @@ pub fn statuses_have_causes()
         → (status ≡ 0) ⊎ (status ≡ 9) → IsTrue r.door_after.is_attached }
     ensures silent { (r : Run) (status : ℕ) → Ends r status → IsServing r.command → status ≡ 0
         → (r.world_after.err ≡ r.world_before.err) × (r.world_after.out ≡ r.world_before.out) }
+    // 9 only where the input ends inside a request, behind requests that got their replies.
+    ensures cut_inside { (r : Run) (status : ℕ) → Ends r status → status ≡ 9 → EndsInside r }
     // 6 only where the door's count rose.
     ensures door_failed { (r : Run) (status : ℕ) → Ends r status
         → status ≡ 6 → DoorHasFailed r.door_before r.door_after × IsServed r end.Fault }
+    // Where the door isn't attached in the end, 6 is that attaching failed where the command says.
+    ensures attach_failed { (r : Run) (status : ℕ) → Ends r status
+        → status ≡ 6 → ¬ (IsTrue r.door_after.is_attached) → FailedToAttach r }
     // 7 is free: the door is as it was, or a link that was due a reply got the fixed one.
     ensures memory { (r : Run) (status : ℕ) → Ends r status
         → status ≡ 7 → (r.door_after ≡ r.door_before) ⊎ IsServed r end.Memory }
@@ -74,3 +79,20 @@ pub fn answers_what_is_given()
     schema_has_no_fault();
     file_is_one_schema();
 }
+
+/// What comes of a run whose schema file is no schema, is too long or isn't there, whichever command it is.
+pub fn given_files_decide()
+    // A file that is short enough and no schema: 4, or memory ran out. `refused` says what is told then.
+    ensures unfit { (r : Run) (status : ℕ) → Ends r status
+        → (file : List ℕ) → NamesFile r file → ¬ (IsTooLong file) → ¬ (IsSchemaFile file)
+        → ¬ (WorldHasFailed r.world_before r.world_after) → (status ≡ 7) ⊎ (status ≡ 4) }
+    // A file that is too long: 3, or memory ran out.
+    ensures too_long { (r : Run) (status : ℕ) → Ends r status
+        → (file : List ℕ) → NamesFile r file → IsTooLong file
+        → ¬ (WorldHasFailed r.world_before r.world_after) → (status ≡ 7) ⊎ (status ≡ 3) }
+    // No file of that name: memory ran out, or the world counted a fault, and then it is 3, or 10 where
+    // even that couldn't be told.
+    ensures absent { (r : Run) (status : ℕ) → Ends r status → NamesNoFile r
+        → (status ≡ 7)
+        ⊎ (((status ≡ 3) ⊎ (status ≡ 10)) × WorldHasFailed r.world_before r.world_after) }
+{}

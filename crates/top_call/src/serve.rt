@@ -2,11 +2,13 @@
 ghost use Rattle.std.specs.Prelude.{◌≡◌, ◌≤◌, ◌⊎◌, false};
 ghost use Rattle.edge_core.specs.Door.{asked_also};
 ghost use Rattle.serve_core.specs.Serving.{port_of};
-ghost use Rattle.type_core.specs.Sound.{IsSound};
+ghost use Rattle.expr_core.specs.Schema.{behaviours_shown};
+ghost use Rattle.host_core.specs.Sound.{IsPlainSchema};
 ghost use Rattle.top_call.specs.RunInside as inside;
 
 use crate::answering::{Answerer, begin};
 use crate::exit::Exit;
+use action_laws::schemas_behave_plainly;
 use edge_core::Door;
 use expr_core::Schema;
 use link_core::Room;
@@ -22,7 +24,7 @@ pub fn serve<D: Door>(alloc: Global, schema: Schema, door: &mut D, plan: Plan) -
       before = D.state door.old;
       after = D.state door.new;
     }) result }
-    ensures sound { IsSound schema.types }
+    ensures plain { IsPlainSchema schema.types (behaviours_shown schema) }
     ensures exit { inside.IsOfServing result }
     ensures asked { ((D.state door.new).asked ≡ (D.state door.old).asked)
         ⊎ ((D.state door.new).asked ≡ asked_also (port_of plan) (D.state door.old).asked) }
@@ -30,7 +32,7 @@ pub fn serve<D: Door>(alloc: Global, schema: Schema, door: &mut D, plan: Plan) -
     ensures count { (D.state door.old).fault_count ≤ (D.state door.new).fault_count }
 {
     ends_have_causes::<Answerer>();
-    types_are_sound(&schema);
+    schema_is_plain(&schema);
     let Ok(mut room) = Room::new(alloc) else {
         return Exit::Memory;
     };
@@ -40,11 +42,14 @@ pub fn serve<D: Door>(alloc: Global, schema: Schema, door: &mut D, plan: Plan) -
     exit_of(serve_door(alloc, &mut answers, door, &mut room, plan))
 }
 
-// The types of a schema have no fault. It does nothing.
-fn types_are_sound(schema: &Schema)
-    ensures { IsSound schema.now.types }
+// The types of a schema have no fault, and its views and actions have plain constants. It does nothing.
+fn schema_is_plain(schema: &Schema)
+    ensures { IsPlainSchema schema.now.types (behaviours_shown schema.now) }
 {
-    let _ = schema.types().root();
+    schemas_behave_plainly();
+    let root = schema.types().root();
+    let _ = schema.view(root, "");
+    let _ = schema.action(root, "");
 }
 
 // How the program ends where serving ended so.
