@@ -1,5 +1,5 @@
 //! The values whose texts are the bodies of replies.
-ghost use Rattle.std.specs.Prelude.{◌≡◌, [], ◌∷◌, ◌++◌, map, codes, IfOk, OnOk};
+ghost use Rattle.std.specs.Prelude.{◌≡◌, [], ◌∷◌, ◌++◌, map, codes, IfOk, IfErr, OnOk};
 ghost use Rattle.std.specs.Option.{option_copied};
 ghost use Rattle.list_core.specs.Outcome.{Gives};
 ghost use Rattle.snap_core.specs.Value.{text, list};
@@ -86,7 +86,8 @@ pub fn node_value(target: Option<&Pointer>) -> Result<Snap, AllocError>
 
 /// The record of a change.
 pub fn change_body(alloc: Global, patches: &Patches) -> Result<Snap, PatchError>
-    ensures { IfOk result (λ body. view body ≡ replies.change_body patches.now) }
+    ensures body { IfOk result (λ body. view body ≡ replies.change_body patches.now) }
+    ensures memory { IfErr result (λ error. error ≡ PatchError.Memory) }
 {
     let mut fields = Parts::new(alloc);
     push_change(alloc, &mut fields, patches)?;
@@ -99,7 +100,8 @@ pub fn refused_change_body(
     refusal: &Refusal,
     patches: &Patches,
 ) -> Result<Snap, PatchError>
-    ensures { IfOk result (λ body. view body ≡ replies.refused_change_body refusal.now.rule refusal.now.path patches.now) }
+    ensures body { IfOk result (λ body. view body ≡ replies.refused_change_body refusal.now.rule refusal.now.path patches.now) }
+    ensures memory { IfErr result (λ error. error ≡ PatchError.Memory) }
 {
     let name = Txt::copy(alloc, refusal.rule.name())?;
     let path = refusal.path.print()?;
@@ -113,7 +115,8 @@ pub fn refused_change_body(
 
 // The inverses and the patches of a change.
 fn push_change(alloc: Global, fields: &mut Fields, patches: &Patches) -> Result<(), PatchError>
-    ensures { OnOk result (map entry fields.new ≡ map entry fields.old ++ replies.change_of patches.now) }
+    ensures change { OnOk result (map entry fields.new ≡ map entry fields.old ++ replies.change_of patches.now) }
+    ensures memory { IfErr result (λ error. error ≡ PatchError.Memory) }
 {
     let inverse = print_patches(alloc, &inverses(alloc, patches)?)?;
     let patches = print_patches(alloc, patches)?;
@@ -124,7 +127,8 @@ fn push_change(alloc: Global, fields: &mut Fields, patches: &Patches) -> Result<
 
 // The inverse of each patch, in the same order.
 fn inverses(alloc: Global, patches: &Patches) -> Result<Patches, PatchError>
-    ensures { Gives result (map inverse_of patches.now) }
+    ensures inverses { Gives result (map inverse_of patches.now) }
+    ensures memory { IfErr result (λ error. error ≡ PatchError.Memory) }
 {
     let mut inverses = Patches::new(alloc);
     for patch in patches.as_slice() {
