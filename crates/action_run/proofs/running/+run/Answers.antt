@@ -215,8 +215,8 @@ run_statement-returns-in-Each-clause-did g t c =
 
 pub run_statement-returns-in-Call-clause-did : goal.run_statement-returns-in-Call-clause-did
 run_statement-returns-in-Call-clause-did g t c =
-    as-shown (λ (u : Unit {0}). env_of c.args.env.now) c.call_on.result (acting_of c.args.acting.now) (syntax.call (shown c.deref-in-Call.result.now) c.in-Call.name (expressions (map shown c.as_slice.result.now))) c.args.statement.now (env_of c.args.env.now) _ _
-    (ap stmt_shown c.in-Call.is ∙ stmt-Call c.in-Call.on c.in-Call.name c.in-Call.args ∙ (let h0 = c.deref-in-Call.ensures in let h1 = c.as_slice.ensures in cc)) c.call_on.ensures.did
+    as-shown (λ (u : Unit {0}). env_of c.args.env.now) c.call_on.result (acting_of c.args.acting.now) (syntax.call (shown c.deref-in-Call.result.now) c.in-Call.name (expressions (map shown c.as_slice-args.result.now))) c.args.statement.now (env_of c.args.env.now) _ _
+    (ap stmt_shown c.in-Call.is ∙ stmt-Call c.in-Call.on c.in-Call.name c.in-Call.args ∙ (let h0 = c.deref-in-Call.ensures in let h1 = c.as_slice-args.ensures in cc)) c.call_on.ensures.did
 
 pub run_statement-returns-in-Try-clause-did : goal.run_statement-returns-in-Try-clause-did
 run_statement-returns-in-Try-clause-did g t c =
