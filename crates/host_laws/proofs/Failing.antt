@@ -7,7 +7,7 @@ use Rattle.type_core.specs.Making.{Outcome, Refused}
 use Rattle.edit_core.specs.Logged.{patch_of_logged}
 use Rattle.tree_core.specs.Outcome.{◌>>=◌}
 use Rattle.tree_core.specs.Recorded.{after_settling}
-use Rattle.tree_core.specs.State.{State, Calls, edits_of, patches_of}
+use Rattle.tree_core.specs.State.{State, Calls as LoggedCalls, edits_of, patches_of}
 use Rattle.live_tree.specs.Laws.{given_back}
 use Rattle.action_core.specs.Act.{Ran, state_of}
 use Rattle.action_core.specs.Behaving.{Behaving, Callee}
@@ -53,7 +53,7 @@ call-stays failed-nothing types behaviours call s document fails =
     let back : after_settling types ran.state.tree ≡ given_back s ran.state.tree =
     failed-nothing behaving most_actions (record { nodes = []; frame = [] }) callee (state_of s) document.settled fails.atomic (is-refused ran fails.refusal fails.refused) in
     let none : patches_of (after_settling types ran.state.tree) ≡ [] =
-    ap patches_of back ∙ ap (λ (cs : Calls). map patch_of_logged (edits_of cs)) document.document.document.at_rest in
+    ap patches_of back ∙ ap (λ (cs : LoggedCalls). map patch_of_logged (edits_of cs)) document.document.document.at_rest in
     ap (λ (o : Outcome NodeNo). act_done s (o >>= run)) fails.there ∙ ap (act_done s) (refused-run types ran fails.refusal fails.refused none)
 
 -- a document that stays, and a reply that is a refusal
@@ -78,9 +78,9 @@ module _ (failed-nothing : FailedAtomicsAreNothing) (visit : Visit) (snapshot : 
     by : (done : Done) × Acts visit snapshot done × (answer ≡ after_done name docs done) → LeavesAll docs answer
     by (done, acts, is) =
         let stayed : StaysRefused snapshot done = act-stays done acts in
-        let same : with_snapshot name done.snapshot docs ≡ docs = ap (λ (v : Value). with_snapshot name v docs) stayed.same ∙ with_snapshot-same name snapshot docs found in
+        let kept : with_snapshot name done.snapshot docs ≡ docs = ap (λ (v : Value). with_snapshot name v docs) stayed.same ∙ with_snapshot-same name snapshot docs found in
         record {
-          docs = ap (λ (a : Answer). a.docs) is ∙ same;
+          same = ap (λ (a : Answer). a.docs) is ∙ kept;
           reply = subst IsRefusalReply (sym (ap (λ (a : Answer). a.reply) is)) stayed.reply;
         }
 

@@ -72,7 +72,7 @@ pub record FailsInAtomic (types : Catalog) (behaviours : List ShownBehaviour) (c
 
 -- documents as they were, and a refusal that holds no patches
 pub record LeavesAll (docs : Docs) (answer : Answer) : Type 0 where
-  pub docs : answer.docs ≡ docs
+  pub same : answer.docs ≡ docs
   pub reply : IsRefusalReply answer.reply
 
 -- A request for an action that ends refused under an atomic middleware leaves all documents as they were, and its reply is a
